@@ -84,7 +84,15 @@ static void say_line(Client *client, const char *text) {
 }
 
 static bool can_flush(const Client *client) {
-  return client->link && client->unsent.length && client->link->up.length < link_room && !client->is_stalled;
+  // A browser sends nothing of a link of protocol 4 before its WebSocket is open.
+  bool is_open = !client->lasting || !client->is_browser || client->is_upgraded;
+  return client->link && is_open && client->unsent.length && client->link->up.length < link_room && !client->is_stalled;
+}
+
+// What is sent of a link of protocol 4 through a WebSocket is a message, wherever its lines begin and end.
+void put_sent(const Client *client, Link *link, const char *from, size_t length) {
+  if (client->lasting && client->is_browser) put_message(&link->up, from, length);
+  else put_bytes(&link->up, from, length);
 }
 
 static void flush(Client *client) {
@@ -92,7 +100,7 @@ static void flush(Client *client) {
   if (length > 1 && draw(&client->draws, 8) == 0) length = 1 + draw(&client->draws, length);
   if (client->lasting) note_written(client, client->unsent.bytes + client->unsent.from, length);
   // What is sent to a program that has ended its link goes nowhere.
-  if (!client->link->is_reset && !(client->link->is_accepted && client->link->handles == 0)) put_bytes(&client->link->up, client->unsent.bytes + client->unsent.from, length);
+  if (!client->link->is_reset && !(client->link->is_accepted && client->link->handles == 0)) put_sent(client, client->link, client->unsent.bytes + client->unsent.from, length);
   take_bytes(&client->unsent, NULL, length);
   note(client->task, "sends %zu", length);
 }
@@ -224,7 +232,7 @@ static bool is_due(const Client *client) {
     case PAUSE:
     case RESUME:
     case KEPT: return !client->has_begun || has_time_passed(client);
-    case SERVE: return opened_link() != NULL;
+    case SERVE: return opened_link() && opened_link() != client->link;
     // A browser sends nothing before its link is open.
     case HELLO: return client->has_begun ? is_open(client->site) : !client->is_browser || client->is_upgraded;
     case MEET: return !client->has_begun || *who_has_come(it->text) >= it->number;
@@ -263,7 +271,7 @@ static bool is_due(const Client *client) {
 
 // Whether a command goes on when the link has ended.
 static bool outlives_link(Verb verb) {
-  static const Verb outliving[] = {CONNECT, BROWSE, MEET, STALL, PAUSE, RAW, SHUT, RESET, CUTS, RESUME, CLOSED, BYE, GONE, REFUSED, TYPE};
+  static const Verb outliving[] = {CONNECT, BROWSE, SERVE, MEET, STALL, PAUSE, RAW, SHUT, RESET, CUTS, RESUME, CLOSED, BYE, GONE, REFUSED, TYPE};
   for (size_t k = 0; k < sizeof outliving / sizeof *outliving; k++)
     if (outliving[k] == verb) return true;
   return false;

@@ -46,7 +46,7 @@ static const char *take_payload(Client *client, int first, const char *payload, 
   switch (first) {
     case TEXT:
     case TEXT + 1: put_bytes(&client->lines, payload, length); return NULL;
-    case PING_FRAME: put_frame(&client->unsent, PONG_FRAME, payload, length); return NULL;
+    case PING_FRAME: put_frame(client->lasting ? &client->link->up : &client->unsent, PONG_FRAME, payload, length); return NULL;
     case PONG_FRAME:
     case CLOSE: return NULL;
     default: return "a frame of no kind that a server sends";

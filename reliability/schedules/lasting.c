@@ -13,6 +13,8 @@ static const int64_t A_SECOND = 1000ll * MILLISECOND;
 static const int64_t QUIET = 60000ll * MILLISECOND, LONGEST_ANSWER = 10000ll * MILLISECOND, LONGEST_SILENCE = 90000ll * MILLISECOND;
 // So long after the last byte of a connection, and then some seconds of grace, its link is over at the latest.
 static const int64_t LONGEST_UNNOTICED = 185000ll * MILLISECOND;
+// For so long the server keeps the count of a link that is over.
+static const int64_t A_DAY = 86400000ll * MILLISECOND;
 
 // How a connection breaks: with all that is on its way, after what the client has sent, without a sign, or so that its bytes come late.
 typedef enum { BY_RESET, BY_END, SILENTLY, LATE_BYTES } Break;
@@ -45,7 +47,7 @@ struct Lasting {
   long written;   // how many lines of the way up were written to this connection, and before it began
   char first;     // the first letter of the line that is being written, or 0
   bool is_held;   // whether the client connects again only by a command
-  bool has_run_out;
+  bool has_run_out, is_forgotten;
   long cuts, span; // how often its connection still breaks, and within how many microseconds each time
   int64_t cuts_at, lost_at, left_at, connects_at, handed_at, heard_at, asked_at, late_at;
   Link *older; // a connection that is given up, and whose bytes come late
@@ -138,12 +140,11 @@ static const char *take_resumed(Client *client, long count) {
   return NULL;
 }
 
-// Whether the link has waited for long enough: since it was carried, or since the server may have written its last line. The server knows its time in whole
-// milliseconds, so a grace may be shorter by less than one.
+// Whether the link has waited for long enough: since it was carried, or since the server may have written its last line.
 static bool may_have_run_out(const Client *client) {
   const Lasting *it = client->lasting;
   int64_t since = it->left_at != NEVER && it->left_at < it->lost_at ? it->left_at : it->lost_at;
-  return !is_open(client->site) || now - since + MILLISECOND > it->seconds * A_SECOND;
+  return !is_open(client->site) || now - since >= it->seconds * A_SECOND;
 }
 
 // Only what the server counts had an effect.
@@ -151,6 +152,7 @@ static const char *take_ended(Client *client, long count) {
   Lasting *it = client->lasting;
   if (!is_of_messages(it, count)) return "an `ended` with a count that the server cannot have";
   if (!may_have_run_out(client)) return "a link that ends before its grace is over";
+  if (now - it->lost_at > it->seconds * A_SECOND + LONGEST_UNNOTICED + A_DAY) return "a count that is kept for longer than a day";
   it->stage = IS_OVER;
   it->confirmed = count;
   it->has_run_out = true;
@@ -159,10 +161,21 @@ static const char *take_ended(Client *client, long count) {
   return NULL;
 }
 
+// A day after that the server knows no more of the link.
+static const char *take_no_link(Client *client) {
+  Lasting *it = client->lasting;
+  if (now - it->lost_at + MILLISECOND < it->seconds * A_SECOND + A_DAY) return "a link that is forgotten within a day";
+  it->stage = IS_OVER;
+  it->has_run_out = it->is_forgotten = true;
+  client->link->is_client_shut = true;
+  return NULL;
+}
+
 static const char *take_answer(Client *client, const char *line) {
   long count;
   if (sscanf(line, "resumed %ld", &count) == 1) return take_resumed(client, count);
   if (sscanf(line, "ended %ld", &count) == 1) return take_ended(client, count);
+  if (strcmp(line, "error 35") == 0) return take_no_link(client);
   if (strcmp(line, "error 8")) return "a `resume` is refused";
   break_connection(client, NULL);
   return NULL;
@@ -181,6 +194,9 @@ static const char *end_link(Client *client, const char *line) {
   client->unsent.length = end ? end + 1 - from : 0;
   confirm(client);
   it->stage = IS_OVER;
+  bool is_answered = it->put_count && strcmp(it->put[it->put_count - 1].text, "bye\n") == 0;
+  // A server that stops says `bye` by itself, after what it took.
+  if (!is_answered && may_be_lost) return NULL;
   return strcmp(line, "bye") || it->confirmed == it->put_count ? NULL : "a `bye` before all is confirmed";
 }
 
@@ -270,7 +286,8 @@ void break_connection(Client *client, const char *how) {
     end_by(client, drawn);
   }
   client->link = NULL;
-  client->unsent.length = client->lines.length = 0;
+  client->unsent.length = client->lines.length = client->unread.length = 0;
+  client->is_upgraded = false;
   it->first = 0;
   it->connects_at = now + draw_wait(client);
 }
@@ -298,6 +315,9 @@ void resume_link(Client *client) {
   it->place = it->told_here = draw(&client->draws, 2) ? it->taken_count : it->told + (long)draw(&client->draws, it->taken_count - it->told + 1);
   it->handed_at = it->heard_at = it->asked_at = now;
   client->link = connect_link();
+  client->unread.length = 0;
+  client->is_upgraded = false;
+  if (client->is_browser) put_upgrade(&client->link->up);
   say_note(client, "resume %s %ld\n", it->token, it->place);
   draw_next_cut(client);
 }
@@ -353,9 +373,10 @@ bool has_to_tend(const Client *client) {
   return is_unanswered(client) || is_late_due(it) || is_cut_due(it) || is_connection_due(it) || is_got_due(client) || is_broken(client);
 }
 
-static void bring_late_bytes(Lasting *it) {
+static void bring_late_bytes(const Client *client) {
+  Lasting *it = client->lasting;
   size_t length = it->late.length < link_room ? it->late.length : link_room;
-  if (!it->older->is_reset && !(it->older->is_accepted && it->older->handles == 0)) put_bytes(&it->older->up, it->late.bytes + it->late.from, length);
+  if (!it->older->is_reset && !(it->older->is_accepted && it->older->handles == 0)) put_sent(client, it->older, it->late.bytes + it->late.from, length);
   take_bytes(&it->late, NULL, length);
 }
 
@@ -367,7 +388,7 @@ static void cut_now(Client *client) {
 
 void tend(Client *client) {
   Lasting *it = client->lasting;
-  if (is_late_due(it)) bring_late_bytes(it);
+  if (is_late_due(it)) bring_late_bytes(client);
   else if (is_cut_due(it)) cut_now(client);
   else if (is_broken(client)) break_connection(client, "end");
   else if (is_got_due(client)) confirm(client), it->handed_at = now;
@@ -425,7 +446,8 @@ static const PutLine *last_with_effect(const Client *client) {
 }
 
 bool is_effect_known(const Client *client) {
-  return client->lasting->stage == IS_OVER || client->lasting->stage == GREETS;
+  const Lasting *it = client->lasting;
+  return (it->stage == IS_OVER && !it->is_forgotten) || it->stage == GREETS;
 }
 
 long edits_with_effect(const Client *client) {

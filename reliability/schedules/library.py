@@ -41,6 +41,7 @@ class Scenario:
     limit: str = "1000"
     ends: str = "0"
     grace: str = ""
+    protocol: str = "3"
 
     @staticmethod
     def read(path):
@@ -50,18 +51,18 @@ class Scenario:
                 word, _, value = line.strip().partition(" ")
                 if word in ("client", "clients"):
                     break
-                if word in ("program", "sessions", "limit", "ends", "grace"):
+                if word in ("program", "sessions", "limit", "ends", "grace", "protocol"):
                     setattr(made, word, value)
         return made
 
     def words(self):
         """The arguments of the program."""
+        grace = ["--grace", self.grace] if self.grace else []
         if self.program == "jupd":
-            grace = ["--grace", self.grace] if self.grace else []
             return ["--listen", ADDRESS, "--limit", self.limit, "--sessions", self.sessions, *grace]
         if self.program == "jupweb":
-            return ["--listen", ADDRESS, "--board", "a.board"]
-        return ["--connect", ADDRESS]
+            return ["--listen", ADDRESS, "--board", "a.board", *grace]
+        return ["--protocol", self.protocol, "--connect", ADDRESS]
 
 
 def scenarios(word=""):

@@ -139,7 +139,8 @@ static void set_fault(const char *line) {
 // A line about the run: what fails, once in how many times, and what is due. The runner reads the other lines.
 static void set(const char *line) {
   long value = 0;
-  if (sscanf(line, "within %ld", &value) == 1) most_time = value * 1000 * MILLISECOND;
+  char unit[LONGEST] = "";
+  if (sscanf(line, "within %ld %s", &value, unit) >= 1) most_time = value * (strcmp(unit, "ms") == 0 ? 1 : 1000) * MILLISECOND;
   if (sscanf(line, "room %ld", &value) == 1) link_room = value;
   if (strcmp(line, "links may end") == 0) may_be_lost = true;
   if (strcmp(line, "links last") == 0) do_links_last = true;

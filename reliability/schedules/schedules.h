@@ -246,6 +246,8 @@ void put_upgrade(Pipe *to);
 void put_ping(Pipe *to);
 // Lines as one message.
 void put_message(Pipe *to, const char *lines, size_t length);
+// Puts what a client has sent into a link, as lines or as a message.
+void put_sent(const Client *client, Link *link, const char *from, size_t length);
 // Takes the next message, frame or head that is whole. Appends the lines of a message, and the answer to a ping. Returns what is wrong, or NULL.
 const char *take_frame(Client *client, bool *is_whole);
 

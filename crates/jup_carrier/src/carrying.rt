@@ -1,6 +1,6 @@
 //! A carrier: one connection, which carries a link for as long as it lasts.
 
-use crate::connection::Connection;
+use crate::connection::{CarrierEnd, Connection};
 use crate::hearing::{Hearing, Read as Came};
 use crate::link::Link;
 use crate::uptime::Uptime;
@@ -90,15 +90,22 @@ impl<'a> Carrier<'a> {
                 self.break_off(rt, connection);
                 return;
             };
-            if write_whole(to, &out).is_err() || piece == Piece::Cut {
+            if write_whole(to, &out).is_err() {
                 self.break_off(rt, connection);
                 return;
             }
-            if piece != Piece::Bytes {
-                connection.finish();
-                self.link.wrote_last(rt, self.number, self.now(rt));
-                return;
-            }
+            let end = match piece {
+                Piece::Bytes => continue,
+                Piece::Last => CarrierEnd::LastLine,
+                Piece::End => CarrierEnd::Nothing,
+                Piece::Cut => {
+                    self.break_off(rt, connection);
+                    return;
+                }
+            };
+            connection.finish(end);
+            self.link.wrote_last(rt, self.number, self.now(rt));
+            return;
         }
     }
 

@@ -5,6 +5,7 @@ use crate::uptime::Uptime;
 use jup_io::is_interrupted;
 use jup_links::{FirstBytes, LONGEST_FIRST};
 use jup_resume::FirstLine;
+use std::io;
 use std::io::Read;
 use std::net::TcpStream;
 use std::sync::Wait;
@@ -76,8 +77,8 @@ impl Greeted {
     }
 
     // Reads once. Whether the connection is to be read on: bytes came, or the read was interrupted.
-    fn hear(&mut self, mut stream: &TcpStream) -> bool {
-        match stream.read(&mut self.bytes[self.len..]) {
+    fn hear<I: Read>(&mut self, from: &mut I) -> bool {
+        match from.read(&mut self.bytes[self.len..]) {
             Ok(more) => {
                 self.len = self.len.saturating_add(more).min(LONGEST_FIRST);
                 more > 0
@@ -103,11 +104,34 @@ pub enum Patience {
     Short,
 }
 
+/// A reader of a connection whose reads end after a time.
+pub trait Timed: Read {
+    /// How long a read waits at most: for all time if none is given. A read may end sooner as one that was interrupted.
+    fn wait_at_most(&mut self, wait: Option<Duration>) -> io::Result<()>;
+}
+
+impl Timed for &TcpStream {
+    fn wait_at_most(&mut self, wait: Option<Duration>) -> io::Result<()> {
+        self.set_read_timeout(wait)
+    }
+}
+
 /// Reads the first bytes of a connection.
 pub fn greet<R: Wait + Clock>(
     rt: &R,
     uptime: &Uptime,
     stream: &TcpStream,
+    patience: Patience,
+) -> Greeted {
+    let mut from = stream;
+    greet_by(rt, uptime, &mut from, patience)
+}
+
+/// Reads the first bytes of a connection by any reader.
+pub fn greet_by<R: Wait + Clock, I: Timed>(
+    rt: &R,
+    uptime: &Uptime,
+    from: &mut I,
     patience: Patience,
 ) -> Greeted {
     let mut greeted = Greeted::new();
@@ -121,8 +145,11 @@ pub fn greet<R: Wait + Clock>(
             FirstBytes::Part => until = until.or(Some(deadline(rt, uptime))),
             FirstBytes::Session | FirstBytes::Line(_) | FirstBytes::TooLong => return greeted,
         }
-        let wait = wait_until(until, uptime.millis(rt));
-        if stream.set_read_timeout(wait).is_err() || !greeted.hear(stream) {
+        let wait = match wait_until(until, uptime.millis(rt)) {
+            Ok(wait) => wait,
+            Err(TimeIsUp) => break,
+        };
+        if from.wait_at_most(wait).is_err() || !greeted.hear(from) {
             break;
         }
     }
@@ -134,8 +161,16 @@ fn deadline<R: Wait + Clock>(rt: &R, uptime: &Uptime) -> u64 {
     uptime.millis(rt).saturating_add(LONGEST_GREETING)
 }
 
-// How long a read may wait: at least a millisecond, since a socket takes no wait of none.
-fn wait_until(until: Option<u64>, now: u64) -> Option<Duration> {
-    let left = until?.saturating_sub(now).max(1);
-    Some(Duration::from_millis(left))
+/// The first bytes of a connection took too long.
+struct TimeIsUp;
+
+// How long a read may wait.
+fn wait_until(until: Option<u64>, now: u64) -> Result<Option<Duration>, TimeIsUp> {
+    let Some(until) = until else {
+        return Ok(None);
+    };
+    match until.saturating_sub(now) {
+        0 => Err(TimeIsUp),
+        left => Ok(Some(Duration::from_millis(left))),
+    }
 }

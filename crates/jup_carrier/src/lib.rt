@@ -16,8 +16,8 @@ mod uptime;
 mod writer;
 
 pub use carrying::{Carrier, carry};
-pub use connection::Connection;
-pub use greeting::{First, Greeted, Patience, greet};
+pub use connection::{CarrierEnd, Connection};
+pub use greeting::{First, Greeted, Patience, Timed, greet, greet_by};
 pub use hearing::Hearing;
 pub use link::{Link, Resumption};
 pub use links::{Found, Links};

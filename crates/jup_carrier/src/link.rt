@@ -219,6 +219,18 @@ impl Link {
         let _ = self.final_count(rt);
     }
 
+    /// The server stops: it takes no more lines of the link.
+    pub(crate) fn stop<R: Wait>(&self, rt: &R) {
+        let change = self.held.lock(rt).stop();
+        change.tell(&self.session, &self.carriers);
+    }
+
+    /// Ends the link without a last line, and does not wait for its session.
+    pub(crate) fn drop_lines<R: Wait>(&self, rt: &R) {
+        let change = self.held.lock(rt).lose();
+        change.tell(&self.session, &self.carriers);
+    }
+
     /// Ends the link if it has waited for long enough.
     pub(crate) fn tend<R: Wait>(&self, rt: &R, now: u64) {
         let change = self.held.lock(rt).tend(now);

@@ -1,4 +1,5 @@
 //! The links of a server, by their tokens, and the places of its sites.
+ghost use Rattle.std.specs.Prelude.{◌≡◌};
 
 use crate::link::Link;
 use crate::uptime::Uptime;
@@ -6,6 +7,7 @@ use jup_limits::{MOST_ATTACHED, NoMemory};
 use jup_links::{Count, Counts, State};
 use jup_resume::Token;
 use std::alloc::Global;
+use std::marker::Model;
 use std::sync::{Arc, Mutex, Wait};
 use std::time::Clock;
 
@@ -21,13 +23,21 @@ pub enum Found {
     Nothing,
 }
 
-/// The links of a server, and how many of its sites may be attached.
+/// The links of a server, and how many of its sites may be attached. Contracts see for how many seconds each link waits for a carrier.
 #[derive(Drop)]
 pub struct Links {
     alloc: Global,
     seconds: u32,
     uptime: Uptime,
     table: Mutex<Table>,
+}
+
+impl Model for Links {
+    ghost use Rattle.std.specs.Prelude.{ℕ};
+
+    ghost Value = { ℕ };
+
+    ghost view = { λ l. l.seconds };
 }
 
 // What is known of all links.
@@ -37,11 +47,15 @@ struct Table {
     counts: Counts,
     /// How many sessions run, or are about to.
     seated: usize,
+    /// Whether the server stops.
+    stops: bool,
 }
 
 impl Links {
     /// A server that has no link. Each link waits so many seconds for a carrier.
-    pub fn new(alloc: Global, seconds: u32, uptime: Uptime) -> Links {
+    pub fn new(alloc: Global, seconds: u32, uptime: Uptime) -> Links
+        ensures { result ≡ seconds }
+    {
         Links {
             alloc,
             seconds,
@@ -50,6 +64,7 @@ impl Links {
                 links: Vec::new(alloc),
                 counts: Counts::new(alloc),
                 seated: 0,
+                stops: false,
             }),
         }
     }
@@ -68,9 +83,20 @@ impl Links {
         let Ok(kept) = Arc::try_clone(&link) else {
             return Err(NoMemory);
         };
-        match self.table.lock(rt).links.push(kept) {
-            Ok(()) => Ok(link),
-            Err(_) => Err(NoMemory),
+        self.table.lock(rt).add(rt, kept)?;
+        Ok(link)
+    }
+
+    /// The server stops: it takes no more lines of any link, also of one that opens later. Each ends as after what it took.
+    pub fn stop<R: Wait>(&self, rt: &R) {
+        self.table.lock(rt).stop(rt);
+    }
+
+    /// Ends all links without a last line. It does not wait for their sessions.
+    pub fn lose_all<R: Wait>(&self, rt: &R) {
+        let table = self.table.lock(rt);
+        for link in &table.links {
+            link.drop_lines(rt);
         }
     }
 
@@ -130,6 +156,20 @@ impl Links {
 }
 
 impl Table {
+    fn add<R: Wait>(&mut self, rt: &R, link: Arc<Link, Global>) -> Result<(), NoMemory> {
+        if self.stops {
+            link.stop(rt);
+        }
+        self.links.push(link).map_err(|_| NoMemory)
+    }
+
+    fn stop<R: Wait>(&mut self, rt: &R) {
+        self.stops = true;
+        for link in &self.links {
+            link.stop(rt);
+        }
+    }
+
     fn tend<R: Wait>(&mut self, rt: &R, now: u64) {
         for link in &self.links {
             link.tend(rt, now);

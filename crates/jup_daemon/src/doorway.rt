@@ -2,11 +2,11 @@
 
 use crate::{Admission, DaemonEnd, Door, Turn};
 use jup_carrier::Links;
+use std::io;
 use std::net::{Shutdown, TcpListener, TcpStream};
 use std::os::fd::OwnedFd;
 use std::sync::{Condvar, CondvarTimeouts, Mutex, Wait};
 use std::time::{Clock, Duration};
-use std::{io, thread};
 
 /// The door of a daemon, as its threads share it.
 #[derive(Drop)]
@@ -69,24 +69,24 @@ impl Doorway {
         self.left.notify_all();
     }
 
-    /// Looks at the links each second, until nobody is accepted any more and no link is left.
+    /// Looks at the links each second, until nobody is accepted any more.
     pub(crate) fn watch<R: Wait + Clock>(&self, rt: &R, links: &Links) {
         for _ in rt.forever() {
-            let (is_left, _) = self.left.wait_timeout_while(
-                rt,
-                self.is_left.lock(rt),
-                Duration::from_secs(1),
-                |is_left| !*is_left,
-            );
-            let has_left = *is_left;
-            drop(is_left);
-            if has_left && links.tend(rt) == 0 {
+            if self.wait_for_leave(rt) {
                 return;
             }
             self.look(rt, links);
-            if has_left {
-                thread::sleep(rt, Duration::from_secs(1));
-            }
         }
+    }
+
+    // Waits until nobody is accepted any more, for a second at most. Whether nobody is.
+    fn wait_for_leave<R: Wait + Clock>(&self, rt: &R) -> bool {
+        let (is_left, _) = self.left.wait_timeout_while(
+            rt,
+            self.is_left.lock(rt),
+            Duration::from_secs(1),
+            |is_left| !*is_left,
+        );
+        *is_left
     }
 }

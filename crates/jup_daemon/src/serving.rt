@@ -155,7 +155,7 @@ fn serve_star<R: Threads + Wait + Clock + Sync, T: Tokens + Sync, O: Write>(
         alloc,
         hub: &hub,
         bell: &Bell::new(),
-        links: &Links::new(alloc, links.grace, Uptime::new(rt)),
+        links: &links_of(rt, alloc, links),
         doorway: &doorway,
         late: &Late::new(),
     };
@@ -164,6 +164,13 @@ fn serve_star<R: Threads + Wait + Clock + Sync, T: Tokens + Sync, O: Write>(
         Ok(closed) => report(alloc, &closed.star, out),
         Err(_) => Err(DaemonEnd::Held),
     }
+}
+
+// No link yet. Each will wait for as long as the command line says.
+fn links_of(clock: &impl Clock, alloc: Global, words: &LinkWords) -> Links
+    ensures { result ≡ words.now.grace }
+{
+    Links::new(alloc, words.grace, Uptime::new(clock))
 }
 
 // The text of the layout.

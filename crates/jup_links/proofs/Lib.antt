@@ -1,3 +1,5 @@
+mod Beginnings
 mod Kept
+mod KeptCounts
 mod LastLines
 mod Messages

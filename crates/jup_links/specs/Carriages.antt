@@ -1,5 +1,5 @@
 -- Which carrier a link has.
-use Rattle.std.specs.Prelude.{◌≡◌, ℕ, ◌+◌, ◌-◌, ◌%◌, ◌^◌, ◌≤◌, Bool, true, false, Option, Some, None, IsSomeAnd}
+use Rattle.std.specs.Prelude.{◌≡◌, ℕ, ◌+◌, ◌-◌, ◌%◌, ◌^◌, ◌<◌, Bool, true, false, Option, Some, None, IsSomeAnd}
 
 pub record Carrying : Type 0 where
   pub number : ℕ  -- of the present carrier, or of the last one
@@ -23,6 +23,6 @@ after_taking_over c = record { number = (c.number + 1) % 2 ^ 64; is_there = true
 abbrev pub after_losing : ℕ → Carrying → Carrying
 after_losing now c = record c { is_there = false; since = Some now }
 
--- the link has waited for so many milliseconds
+-- The link has waited for so many milliseconds. Both times are whole ones, so more than these have to lie between them.
 abbrev pub HasWaited : ℕ → ℕ → Carrying → Type 0
-HasWaited now most c = IsSomeAnd c.since (λ since. most ≤ now - since)
+HasWaited now most c = IsSomeAnd c.since (λ since. most < now - since)

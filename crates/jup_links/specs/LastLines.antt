@@ -1,5 +1,5 @@
 -- The lines by which a server ends a link.
-use Rattle.std.specs.Prelude.{ℕ, List, ◌++◌, codes, decimal}
+use Rattle.std.specs.Prelude.{◌≢◌, ℕ, List, ◌++◌, codes, decimal}
 use Rattle.jup_number.specs.Numbers.{IsU32}
 use Rattle.jup_links.specs.declared.last_line.LastLine.{LastLine}
 use Rattle.jup_links.specs.declared.last_line.LastLine.TheVariants.{Bye, Error}
@@ -13,3 +13,7 @@ last_text (Error number) = codes "error " ++ decimal number
 abbrev pub IsLast : LastLine → Type 0
 IsLast Bye = Unit {0}
 IsLast (Error number) = IsU32 number
+
+-- the text is none
+abbrev pub IsNoLast : List ℕ → Type 0
+IsNoLast text = (last : LastLine) → IsLast last → text ≢ last_text last

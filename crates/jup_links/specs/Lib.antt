@@ -1,5 +1,7 @@
 pub mod Carriages
 pub mod Changes
+pub mod Counts
+pub mod FirstBytes
 pub mod LastLines
 pub mod Linked
 pub mod Messages

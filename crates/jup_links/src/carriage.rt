@@ -111,12 +111,12 @@ impl Carriage {
         self.since
     }
 
-    /// Whether the link has waited for so many milliseconds.
+    /// Whether the link has waited for so many milliseconds, and not for a part of one less.
     pub fn has_waited(&self, now: u64, most: u64) -> bool
         ensures { IsTrue result ↔ HasWaited now most self.now }
     {
         match self.since {
-            Some(since) => now.saturating_sub(since) >= most,
+            Some(since) => now.saturating_sub(since) > most,
             None => false,
         }
     }

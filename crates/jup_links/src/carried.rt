@@ -1,13 +1,13 @@
 //! What the carriers of a link and its session share.
-ghost use Rattle.std.specs.Prelude.{◌≡◌, ◌≢◌, ◌↔◌, ◌≤◌, Err, None, length, IfOk, OnErr, IsTrue};
+ghost use Rattle.std.specs.Prelude.{◌≡◌, ◌≢◌, ◌↔◌, ◌≤◌, Ok, Err, None, Some, [], ◌++◌, length, IfOk, OnOk, OnErr, IsSome, IsTrue, IsFalse, true, false};
 ghost use Rattle.jup_links.specs.Carriages.{IsPresent, after_taking_over, after_losing};
-ghost use Rattle.jup_links.specs.Linked.{IsOutOfTime};
+ghost use Rattle.jup_links.specs.Linked.{new_link, IsOutOfTime, IsEnding, IsSpent, IsRefused, HasBegun, IsIn, got_bytes, after_got_bytes, AreNotes, WritesLines, WritesLast, IsOfCarrier, HasLines, IsOnlyWritten};
+ghost use Rattle.jup_links.specs.Ways.{IsLastNext};
 
 use crate::carriage::Carriage;
 use crate::change::Change;
 use crate::last_line::LastLine;
-use crate::opening::Opening;
-use crate::way_down::{NextLine, Unput, WayDown};
+use crate::way_down::{MOST_WRITTEN, NextLine, Unput, WayDown};
 use crate::way_up::{MOST_GIVEN, Step, WayUp};
 use jup_faults::Fault;
 use jup_limits::NoMemory;
@@ -15,11 +15,8 @@ use jup_resume::{Confirming, LONGEST_QUIET, Note, Token, split};
 use std::alloc::Global;
 use std::marker::Model;
 
-/// How many bytes a carrier is given to write at a time, and then one line more.
-pub const MOST_WRITTEN: usize = 8_192;
-
-/// For how many milliseconds a carrier is read after the last line.
-const LONGEST_ENDING: u64 = 10_000;
+/// For how many milliseconds a carrier is read after the last line: just below ten seconds, since it is cut after more than these.
+const LONGEST_ENDING: u64 = 9_999;
 
 /// What became of a piece of bytes.
 #[derive(Clone, Copy, Debug, PartialEq, Eq)]
@@ -95,8 +92,8 @@ pub enum Refused {
     Ended,
 }
 
-/// What the carriers of a link and its session share. Times are milliseconds since the server began. Contracts see both ways, which carrier the link has, whether its
-/// session has returned, and whether it ended without a last line.
+/// What the carriers of a link and its session share. Times are milliseconds since the server began. Contracts see its token, both ways, which carrier the link has,
+/// whether its session has returned, and whether it ended without a last line.
 #[derive(Drop)]
 pub struct Carried {
     alloc: Global,
@@ -107,7 +104,7 @@ pub struct Carried {
     confirming: Confirming,
     carriage: Carriage,
     /// The first note of the present carrier, if it was not written yet.
-    opening: Option<Opening>,
+    opening: Option<Note>,
     /// Whether nothing was handed to the present carrier for a minute after its client had ended its bytes.
     has_stalled: bool,
     /// When the session returned, if it has.
@@ -117,6 +114,8 @@ pub struct Carried {
     has_met_fault: bool,
     /// Whether the link ended without a last line.
     is_lost: bool,
+    /// Whether the server stops.
+    stops: bool,
 }
 
 impl Model for Carried {
@@ -125,14 +124,16 @@ impl Model for Carried {
 
     ghost Value = { Linked };
 
-    ghost view = { λ c. record { seconds = c.seconds; up = c.up; down = c.down; carriage = c.carriage; ended = c.ended; is_lost = c.is_lost } };
+    ghost view = { λ c. record { token = c.token; seconds = c.seconds; up = c.up; down = c.down; confirming = c.confirming; carriage = c.carriage; opening = c.opening; ended = c.ended; is_lost = c.is_lost } };
 
     ghost invariant = { λ c. c.confirming.taken ≤ c.up.handled };
 }
 
 impl Carried {
     /// A link of this token that waits so many seconds for a carrier. Its first carrier is there, and its session is about to begin.
-    pub fn new(alloc: Global, token: Token, seconds: u32) -> Carried {
+    pub fn new(alloc: Global, token: Token, seconds: u32) -> Carried
+        ensures { result ≡ new_link token seconds }
+    {
         Carried {
             alloc,
             token,
@@ -141,42 +142,62 @@ impl Carried {
             down: WayDown::new(alloc),
             confirming: Confirming::new(),
             carriage: Carriage::new(),
-            opening: Some(Opening::Link { token, seconds }),
+            opening: Some(Note::Link {
+                token,
+                seconds,
+                kept: false,
+            }),
             has_stalled: false,
             ended: None,
             fault: None,
             has_met_fault: false,
             is_lost: false,
+            stops: false,
         }
     }
 
     /// Whether this is the token of the link.
-    pub fn is_of(&self, token: &Token) -> bool {
+    pub fn is_of(&self, token: &Token) -> bool
+        ensures { IsTrue result ↔ (self.now.token ≡ token.now) }
+    {
         self.token.matches(token)
     }
 
     /// How many lines of the way up had their effect.
-    pub fn handled(&self) -> u32 {
+    pub fn handled(&self) -> u32
+        ensures { result ≡ self.now.up.handled }
+    {
         self.up.handled()
     }
 
     /// Whether its session has returned.
-    pub fn has_ended(&self) -> bool {
+    pub fn has_ended(&self) -> bool
+        ensures { IsTrue result ↔ IsSome self.now.ended }
+    {
         self.ended.is_some()
     }
 
     /// Whether only the count of the link is left, once its session has returned.
-    pub fn is_spent(&self) -> bool {
+    pub fn is_spent(&self) -> bool
+        ensures { IsTrue result ↔ IsSpent self.now }
+    {
         self.is_lost || self.has_ended() && self.down.is_empty()
     }
 
     /// Whether what the link took is final only once its session has returned.
-    pub fn is_ending(&self) -> bool {
+    pub fn is_ending(&self) -> bool
+        ensures { IsTrue result ↔ IsEnding self.now }
+    {
         !self.has_ended() && (self.is_lost || self.down.last().is_some())
     }
 
     /// What a server asks of the link when it looks at all of them.
-    pub fn summary(&self) -> Summary {
+    pub fn summary(&self) -> Summary
+        ensures token { result.token ≡ self.now.token }
+        ensures handled { result.handled ≡ self.now.up.handled }
+        ensures has_edits { result.has_edits ≡ self.now.up.has_edits }
+        ensures state { IsIn self.now result.state }
+    {
         Summary {
             token: self.token,
             handled: self.up.handled(),
@@ -185,7 +206,9 @@ impl Carried {
         }
     }
 
-    fn state(&self) -> State {
+    fn state(&self) -> State
+        ensures { IsIn self.now result }
+    {
         let Some(ended) = self.ended else {
             return self.running_state();
         };
@@ -201,7 +224,10 @@ impl Carried {
     }
 
     // What a newcomer may claim waits for a carrier, and the star took no edit of it.
-    fn running_state(&self) -> State {
+    fn running_state(&self) -> State
+        requires { self.now.ended ≡ None }
+        ensures { IsIn self.now result }
+    {
         match self.carriage.since() {
             Some(since) if !self.is_ending() && !self.up.has_edits() => State::Unused { since },
             _ => State::Runs,
@@ -217,7 +243,7 @@ impl Carried {
 
     // Whether the way up has ended for the session.
     fn has_end_for_session(&self) -> bool {
-        self.is_lost || self.fault.is_some() || self.down.last().is_some()
+        self.is_lost || self.stops || self.fault.is_some() || self.down.last().is_some()
     }
 
     /// The session asks for more: it has handled all that it was given.
@@ -290,13 +316,19 @@ impl Carried {
     }
 
     /// The session gives the link up: its site is too far behind.
-    pub fn give_up(&mut self) -> Change {
+    pub fn give_up(&mut self) -> Change
+        ensures counts { self.new.up ≡ self.old.up }
+    {
         self.down.end_by(LastLine::of(Fault::WriteFailed));
         Change::for_all()
     }
 
     /// The session has returned. If memory for the last line is refused, nothing changes.
-    pub fn close(&mut self, now: u64) -> Result<Change, NoMemory> {
+    pub fn close(&mut self, now: u64) -> Result<Change, NoMemory>
+        ensures counts { self.new.up ≡ self.old.up }
+        ensures ended { OnOk result (self.new.ended ≡ Some now) }
+        ensures err { OnErr result (self.new ≡ self.old) }
+    {
         if !self.is_lost {
             let last = self.last_line();
             self.down.close(self.alloc, last)?;
@@ -457,7 +489,7 @@ impl Carried {
         }
         self.carriage.take_over();
         self.has_stalled = false;
-        self.opening = Some(Opening::Resumed {
+        self.opening = Some(Note::Resumed {
             taken: self.counted(),
         });
         self.confirming.begin();
@@ -506,7 +538,9 @@ impl Carried {
     }
 
     // Whether the link may be told of: its site has joined, or was refused.
-    fn has_begun(&self) -> bool {
+    fn has_begun(&self) -> bool
+        ensures { IsTrue result ↔ HasBegun self.now }
+    {
         self.down.is_open() || self.has_ended()
     }
 
@@ -522,8 +556,18 @@ impl Carried {
         }
     }
 
-    /// Puts into `out` what a carrier writes next, as far as it is the present one. It counts as written from now on.
-    pub fn next_piece(&mut self, carrier: u64, out: &mut Vec<u8>) -> Result<Piece, NoMemory> {
+    /// Puts into `out` what a carrier writes next, as far as it is the present one. That is the notes that are due, and then the lines that follow on those it wrote, as far
+    /// as there is room. They count as written from now on. Nothing is written before the site has joined or was refused.
+    pub fn next_piece(&mut self, carrier: u64, out: &mut Vec<u8>) -> Result<Piece, NoMemory>
+        ensures late { (IsPresent carrier self.old.carriage → ⊥) → (result ≡ Ok Piece.Cut) × (out.new.items ≡ []) × (self.new ≡ self.old) }
+        ensures spent { IsPresent carrier self.old.carriage → IsSpent self.old → (result ≡ Ok Piece.End) × (out.new.items ≡ []) × (self.new ≡ self.old) }
+        ensures silent { IsPresent carrier self.old.carriage → (IsSpent self.old → ⊥) → (HasBegun self.old → ⊥) → (result ≡ Ok Piece.Bytes) × (out.new.items ≡ []) × (self.new ≡ self.old) }
+        ensures bytes { IfOk result (λ piece. piece ≡ Piece.Bytes → IsOfCarrier carrier self.old → HasLines false self.old self.new out.new.items) }
+        ensures last { IfOk result (λ piece. piece ≡ Piece.Last → HasLines true self.old self.new out.new.items) }
+        ensures cut { IfOk result (λ piece. piece ≡ Piece.Cut → IsOfCarrier carrier self.old → HasLines false self.old self.new []) }
+        ensures end { result ≡ Ok Piece.End → IsSpent self.old }
+        ensures same { IsOnlyWritten self.old self.new }
+    {
         out.clear();
         if !self.carriage.is_present(carrier) {
             return Ok(Piece::Cut);
@@ -547,10 +591,14 @@ impl Carried {
     }
 
     // Puts the notes that come before lines. A site that was refused gets no `link`.
-    fn put_notes(&mut self, out: &mut Vec<u8>) -> Result<(), NoMemory> {
+    fn put_notes(&mut self, out: &mut Vec<u8>) -> Result<(), NoMemory>
+        requires { out.old.items ≡ [] }
+        ensures notes { OnOk result (AreNotes self.old self.new out.new.items) }
+        ensures same { self.new ≡ record self.old { confirming = self.new.confirming; opening = self.new.opening } }
+    {
         if let Some(opening) = self.opening.take() {
             if self.down.is_open() {
-                opening.note().write(self.alloc, out)?;
+                opening.write(self.alloc, out)?;
             }
         }
         let due = self.confirming.due();
@@ -558,7 +606,11 @@ impl Carried {
     }
 
     // Puts a `got`, if one is due.
-    fn put_got(&mut self, due: Option<u32>, out: &mut Vec<u8>) -> Result<(), NoMemory> {
+    fn put_got(&mut self, due: Option<u32>, out: &mut Vec<u8>) -> Result<(), NoMemory>
+        ensures bytes { OnOk result (out.new.items ≡ out.old.items ++ got_bytes due) }
+        ensures told { OnOk result (self.new ≡ record self.old { confirming = after_got_bytes due self.old.confirming }) }
+        ensures err { OnErr result (self.new ≡ self.old) }
+    {
         let Some(taken) = due else {
             return Ok(());
         };
@@ -568,27 +620,24 @@ impl Carried {
     }
 
     // Puts the lines that are to be written, as many as fit. Whether the last line of the link is among them.
-    fn put_lines(&mut self, out: &mut Vec<u8>) -> Result<bool, NoMemory> {
-        for _ in 0..MOST_WRITTEN {
-            if out.len() >= MOST_WRITTEN {
-                return Ok(false);
-            }
-            match self.down.next_line() {
-                NextLine::Nothing => return Ok(false),
-                NextLine::Line => {
-                    self.down.write_next(out)?;
-                }
-                NextLine::Last => {
-                    self.put_last(out)?;
-                    return Ok(true);
-                }
-            }
+    fn put_lines(&mut self, out: &mut Vec<u8>) -> Result<bool, NoMemory>
+        ensures lines { IfOk result (λ has_last. WritesLines has_last self.old self.new out.old.items out.new.items) }
+        ensures same { IsOnlyWritten self.old self.new }
+    {
+        self.down.write_lines(out)?;
+        if out.len() >= MOST_WRITTEN || self.down.next_line() != NextLine::Last {
+            return Ok(false);
         }
-        Ok(false)
+        self.put_last(out)?;
+        Ok(true)
     }
 
     // Puts the last line, and a `got` before it if one is due.
-    fn put_last(&mut self, out: &mut Vec<u8>) -> Result<(), NoMemory> {
+    fn put_last(&mut self, out: &mut Vec<u8>) -> Result<(), NoMemory>
+        requires { IsLastNext self.old.down.lines }
+        ensures last { OnOk result (WritesLast self.old self.new out.old.items out.new.items) }
+        ensures same { IsOnlyWritten self.old self.new }
+    {
         if self.down.is_open() {
             let due = self.confirming.due_at_end();
             self.put_got(due, out)?;
@@ -623,6 +672,23 @@ impl Carried {
         Change::for_nobody()
     }
 
+    /// The server stops. It takes no more lines of the link, which ends after those that were taken, and waits for no carrier any more.
+    pub fn stop(&mut self) -> Change
+        ensures taken { self.new.up ≡ self.old.up }
+        ensures carriage { self.new.carriage ≡ self.old.carriage }
+        ensures grace { self.new.seconds ≡ 0 }
+        ensures carried { IsTrue self.old.carriage.is_there → self.new ≡ record self.old { seconds = 0 } }
+        ensures alone { IsFalse self.old.carriage.is_there → IsTrue self.new.is_lost }
+    {
+        self.stops = true;
+        self.seconds = 0;
+        self.up.shut();
+        if !self.carriage.is_there() {
+            self.mark_lost();
+        }
+        Change::for_all()
+    }
+
     /// Ends the link without a last line. Nothing of the way down is kept any more.
     pub fn lose(&mut self) -> Change
         ensures { IsTrue self.new.is_lost }
@@ -633,6 +699,7 @@ impl Carried {
 
     fn mark_lost(&mut self)
         ensures lost { IsTrue self.new.is_lost }
+        ensures taken { self.new.up ≡ self.old.up }
         ensures carriage { self.new.carriage ≡ self.old.carriage }
         ensures seconds { self.new.seconds ≡ self.old.seconds }
     {
@@ -642,7 +709,9 @@ impl Carried {
     }
 
     /// Whether its site could not join: there never was a link.
-    pub fn is_refused(&self) -> bool {
+    pub fn is_refused(&self) -> bool
+        ensures { IsTrue result ↔ IsRefused self.now }
+    {
         self.has_ended() && !self.down.is_open()
     }
 }

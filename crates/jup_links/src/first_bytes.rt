@@ -1,14 +1,12 @@
 //! The first bytes of a connection, which say of which protocol it is.
+ghost use Rattle.std.specs.Prelude.{◌↔◌, ◌⊎◌, codes, IsTrue};
+ghost use Rattle.jup_resume.specs.FirstLines.{BeginsWith, IsOfCarrier};
+ghost use Rattle.jup_links.specs.FirstBytes.{Says};
 
-use crate::opening::Opening;
-use jup_resume::is_of_carrier;
-use memchr::memchr;
+use jup_resume::{is_of_carrier, split};
 
 /// How many bytes a first line of protocol 4 has at most, with its line feed.
 pub const LONGEST_FIRST: usize = 64;
-
-/// How a first line of protocol 4 may begin.
-const BEGINNINGS: [&[u8]; 2] = [b"hello 4", b"resume "];
 
 /// What the first bytes of a connection say.
 #[derive(Clone, Copy, Debug, PartialEq, Eq)]
@@ -26,27 +24,50 @@ pub enum FirstBytes {
 }
 
 impl FirstBytes {
-    /// What these bytes say. Only the first 64 count.
-    pub fn of(bytes: &[u8]) -> FirstBytes {
-        if !is_of_carrier(bytes) {
-            return if may_be_of_carrier(bytes) {
-                FirstBytes::Undecided
-            } else {
-                FirstBytes::Session
-            };
+    /// What these bytes say, the first of a connection.
+    pub fn of(bytes: &[u8]) -> FirstBytes
+        ensures { Says bytes.now result }
+    {
+        if is_of_carrier(bytes) {
+            return of_carrier(bytes);
         }
-        match memchr(b'\n', bytes) {
-            Some(at) if at < LONGEST_FIRST => FirstBytes::Line(at),
-            Some(_) => FirstBytes::TooLong,
-            None if bytes.len() < LONGEST_FIRST => FirstBytes::Part,
-            None => FirstBytes::TooLong,
+        if may_be_of_carrier(bytes) {
+            FirstBytes::Undecided
+        } else {
+            FirstBytes::Session
         }
     }
 }
 
-// Whether more bytes can make these the beginning of a first line of protocol 4.
-fn may_be_of_carrier(bytes: &[u8]) -> bool {
-    BEGINNINGS
-        .iter()
-        .any(|beginning| beginning.starts_with(bytes))
+// What bytes say that begin a first line of protocol 4.
+fn of_carrier(bytes: &[u8]) -> FirstBytes
+    requires { IsOfCarrier bytes.now }
+    ensures { Says bytes.now result }
+{
+    let Some((line, _)) = split(bytes, b'\n') else {
+        return if bytes.len() < LONGEST_FIRST {
+            FirstBytes::Part
+        } else {
+            FirstBytes::TooLong
+        };
+    };
+    if line.len() < LONGEST_FIRST {
+        FirstBytes::Line(line.len())
+    } else {
+        FirstBytes::TooLong
+    }
+}
+
+// Whether bytes are the beginning of a first line of protocol 4.
+fn may_be_of_carrier(bytes: &[u8]) -> bool
+    ensures { IsTrue result ↔ (BeginsWith bytes.now (codes "hello 4") ⊎ BeginsWith bytes.now (codes "resume ")) }
+{
+    begins_with(b"hello 4", bytes) || begins_with(b"resume ", bytes)
+}
+
+// Whether bytes begin with others.
+fn begins_with(bytes: &[u8], front: &[u8]) -> bool
+    ensures { IsTrue result ↔ BeginsWith front.now bytes.now }
+{
+    bytes.starts_with(front)
 }

@@ -1,8 +1,8 @@
 //! The way down of a link: the lines that its session puts, until the site has them for good.
-ghost use Rattle.std.specs.Prelude.{◌≡◌, ◌≢◌, ◌⊎◌, ◌↔◌, ◌+◌, ◌≤◌, ◌<◌, Err, None, Some, length, codes, IsOk, OnOk, OnErr, IsTrue};
-ghost use Rattle.jup_resume.specs.Keepers.{after_begin, after_got, size_of, IsPlace, IsGot};
-ghost use Rattle.jup_resume.specs.Texts.{HasNoFeed};
-ghost use Rattle.jup_links.specs.Ways.{most_kept, HasPut, IsClosed};
+ghost use Rattle.std.specs.Prelude.{◌≡◌, ◌≢◌, ◌⊎◌, ◌↔◌, ◌+◌, ◌≤◌, ◌<◌, Err, None, Some, [], List, ℕ, length, codes, IsOk, OnOk, OnErr, IfOk, IsTrue};
+ghost use Rattle.jup_resume.specs.Keepers.{nothing_put, after_begin, after_got, size_of, IsAllWritten, IsPlace, IsGot, WritesNext};
+ghost use Rattle.jup_resume.specs.Texts.{HasNoFeed, spelled};
+ghost use Rattle.jup_links.specs.Ways.{most_kept, new_down, HasPut, IsClosed, IsLineNext, IsLastNext, AreNextLines, AreAll};
 
 use crate::last_line::LastLine;
 use jup_faults::Fault;
@@ -13,6 +13,9 @@ use std::marker::Model;
 
 /// How many bytes the server keeps of a way down. A line that would exceed this waits.
 pub const MOST_KEPT: usize = 262_144;
+
+/// How many bytes a carrier is given to write at a time, and then one line more.
+pub const MOST_WRITTEN: usize = 8_192;
 
 /// The number of the line that is the last that a count can name.
 const LAST_LINE: u32 = u32::MAX;
@@ -59,7 +62,9 @@ impl Model for WayDown {
 
 impl WayDown {
     /// Nothing was put yet.
-    pub fn new(alloc: Global) -> WayDown {
+    pub fn new(alloc: Global) -> WayDown
+        ensures { result ≡ new_down }
+    {
         let mut keeper = Keeper::new(alloc);
         let _ = keeper.begin(0);
         WayDown {
@@ -94,7 +99,10 @@ impl WayDown {
     }
 
     /// Whether nothing is kept.
-    pub fn is_empty(&self) -> bool {
+    #[tactic(auto, using(crate::proofs::Kept::nothing_has_size))]
+    pub fn is_empty(&self) -> bool
+        ensures { IsTrue result ↔ (self.now.lines.kept ≡ []) }
+    {
         self.keeper.kept_bytes() == 0
     }
 
@@ -204,29 +212,56 @@ impl WayDown {
     }
 
     /// What comes next for the carrier.
-    pub fn next_line(&self) -> NextLine {
-        match self.keeper.next() {
-            None => NextLine::Nothing,
-            Some(line) if is_last(line) => NextLine::Last,
-            Some(_) => NextLine::Line,
+    pub fn next_line(&self) -> NextLine
+        ensures nothing { result ≡ NextLine.Nothing → IsAllWritten self.now.lines }
+        ensures line { result ≡ NextLine.Line → IsLineNext self.now.lines }
+        ensures last { result ≡ NextLine.Last → IsLastNext self.now.lines }
+    {
+        let Some(line) = self.keeper.next() else {
+            return NextLine::Nothing;
+        };
+        match LastLine::read(text_of(line)) {
+            Some(_) => NextLine::Last,
+            None => NextLine::Line,
         }
     }
 
     /// Appends that line, and notes that it was written.
-    pub fn write_next(&mut self, out: &mut Vec<u8>) -> Result<bool, NoMemory> {
+    pub fn write_next(&mut self, out: &mut Vec<u8>) -> Result<bool, NoMemory>
+        ensures wrote { IfOk result (λ wrote. WritesNext wrote self.old.lines self.new.lines out.old.items out.new.items) }
+        ensures same { self.new ≡ record self.old { lines = self.new.lines } }
+        ensures err { OnErr result ((self.new ≡ self.old) × (out.new.items ≡ out.old.items)) }
+    {
         self.keeper.write_next(out)
     }
 
+    /// Appends the lines that come next, as many as begin within the room of a piece, up to the last line of the link. They count as written.
+    pub fn write_lines(&mut self, out: &mut Vec<u8>) -> Result<(), NoMemory>
+        ensures lines { OnOk result (AreNextLines self.old self.new out.old.items out.new.items) }
+        ensures all { OnOk result (AreAll self.new out.new.items) }
+        ensures same { self.new ≡ record self.old { lines = record self.old.lines { sent = self.new.lines.sent } } }
+    {
+        for _ in 0..MOST_WRITTEN {
+            if out.len() >= MOST_WRITTEN || self.next_line() != NextLine::Line {
+                return Ok(());
+            }
+            self.write_next(out)?;
+        }
+        Ok(())
+    }
+
     /// Keeps nothing more.
-    pub fn clear(&mut self, alloc: Global) {
+    pub fn clear(&mut self, alloc: Global)
+        ensures { self.new ≡ record self.old { lines = nothing_put } }
+    {
         self.keeper = Keeper::new(alloc);
     }
 }
 
-// Whether a line, given with its line feed, is the last of a link.
-fn is_last(line: &[u8]) -> bool {
-    match line.strip_suffix(b"\n") {
-        Some(text) => LastLine::read(text).is_some(),
-        None => false,
-    }
+// The text of a line, which is given with its line feed.
+#[tactic(auto, using(crate::proofs::Kept::text_of_line))]
+fn text_of(line: &[u8]) -> &[u8]
+    ensures { (text : List ℕ) → line.now ≡ spelled text → result.now ≡ text }
+{
+    &line[..line.len().saturating_sub(1)]
 }

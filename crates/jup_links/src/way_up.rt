@@ -2,6 +2,7 @@
 ghost use Rattle.std.specs.Prelude.{◌≡◌, ◌≢◌, ◌+◌, ◌≤◌, length};
 ghost use Rattle.jup_resume.specs.Takers.{IsFeedless};
 ghost use Rattle.jup_resume.specs.Texts.{HasNoFeed};
+ghost use Rattle.jup_links.specs.Ways.{most_taken, new_up};
 
 use crate::framing::{Framing, Standing};
 use jup_resume::{Arrival, Keeper, Note, Taker, Took};
@@ -80,8 +81,7 @@ impl Model for WayUp {
 impl WayUp {
     /// Nothing was taken yet.
     pub fn new(alloc: Global) -> WayUp
-        ensures taken { result.taken ≡ 0 }
-        ensures handled { result.handled ≡ 0 }
+        ensures { result ≡ new_up }
     {
         let mut lines = Keeper::new(alloc);
         let _ = lines.begin(0);
@@ -166,6 +166,8 @@ impl WayUp {
     /// Takes a piece of the carrier's bytes up to the end of the first line in it, and answers what that is and the bytes after it. If there is no room, it
     /// takes nothing.
     pub fn take<'a>(&mut self, piece: &'a [u8]) -> (Step, &'a [u8])
+        ensures last { result.0 ≡ Step.Line → self.new.taken ≤ most_taken }
+        ensures spent { result.0 ≡ Step.Spent → most_taken ≤ self.old.taken + 1 }
         ensures handled { self.new.handled ≡ self.old.handled }
         ensures shorter { length result.1.now ≤ length piece.now }
     {
@@ -182,6 +184,8 @@ impl WayUp {
     // What a piece of bytes is.
     fn step_by(&mut self, arrival: Arrival) -> Step
         requires { IsFeedless arrival }
+        ensures last { result ≡ Step.Line → self.new.taken ≤ most_taken }
+        ensures spent { result ≡ Step.Spent → most_taken ≤ self.old.taken + 1 }
         ensures handled { self.new.handled ≡ self.old.handled }
     {
         match arrival {
@@ -216,6 +220,8 @@ impl WayUp {
         ensures handled { self.new.handled ≡ self.old.handled }
         ensures line { result ≡ Step.Line → self.new.taken ≡ self.old.taken + 1 }
         ensures none { result ≢ Step.Line → self.new.taken ≡ self.old.taken }
+        ensures last { result ≡ Step.Line → self.new.taken ≤ most_taken }
+        ensures spent { result ≡ Step.Spent → most_taken ≤ self.old.taken + 1 }
     {
         if !self.is_taking() {
             return Step::Nothing;

@@ -1,27 +1,14 @@
 //! Failed allocations in what a server keeps of links, each test for the call of its name, as in `resume_growths`. If one fails for a
 //! connection, that is cut, and the next one carries the link on.
 use crate::expect::expect_eq;
+use crate::shared::{TOKEN, pass_over, put, resume, written};
 use jup_carrier::{Found, Links, Uptime};
 use jup_limits::NoMemory;
-use jup_links::{Carried, Change, Count, Counts, Heard, MOST_GIVEN, Piece, Unput};
+use jup_links::{Carried, Count, Counts, Heard, MOST_GIVEN, Piece, Unput};
 use jup_resume::Token;
 use std::alloc::Global;
 use std::process::Abort;
-use std::sync::Condvar;
 use test_marks::{begin, end};
-
-const TOKEN: [u8; 16] = [7; 16];
-
-// Nobody waits for this change.
-fn pass_over(change: Change) {
-    change.tell(&Condvar::new(), &Condvar::new());
-}
-
-fn put(carried: &mut Carried, line: &[u8]) -> Result<usize, Unput> {
-    let (put, change) = carried.put(line);
-    pass_over(change);
-    put
-}
 
 // A link whose site has its board.
 fn ready(rt: &impl Abort, alloc: Global) -> Carried {
@@ -31,29 +18,15 @@ fn ready(rt: &impl Abort, alloc: Global) -> Carried {
 }
 
 // The second carrier takes the link, whose client has taken so many lines.
-fn resume(rt: &impl Abort, carried: &mut Carried, taken: u32) {
+fn resume_cut(rt: &impl Abort, carried: &mut Carried, taken: u32) {
     pass_over(carried.cut(1, 0));
-    let (resumed, change) = carried.resume(taken, 0);
-    pass_over(change);
-    expect_eq(rt, resumed.ok(), Some(2));
-}
-
-// What the carrier writes next.
-fn written(
-    rt: &impl Abort,
-    alloc: Global,
-    carried: &mut Carried,
-    carrier: u64,
-) -> (Vec<u8>, Piece) {
-    let mut out = Vec::new(alloc);
-    let piece = carried.next_piece(carrier, &mut out).expect(rt, "memory");
-    (out, piece)
+    resume(rt, carried, taken, 2);
 }
 
 #[test]
 fn carried_put(rt: HostRuntime) {
     let mut carried = ready(&rt, rt.alloc());
-    resume(&rt, &mut carried, 1);
+    resume_cut(&rt, &mut carried, 1);
     for _ in 0..20 {
         begin(rt.alloc());
         let mut came = put(&mut carried, b"pong 1\n");
@@ -77,7 +50,7 @@ fn hear(rt: &impl Abort, carried: &mut Carried, line: &[u8]) -> Heard {
     if heard != Heard::Cut {
         return heard;
     }
-    resume(rt, carried, 1);
+    resume_cut(rt, carried, 1);
     let (again, change) = carried.hear(2, line);
     pass_over(change);
     again
@@ -108,7 +81,7 @@ fn first_piece(rt: &impl Abort, alloc: Global, carried: &mut Carried) -> (u64, V
     if piece.is_ok() {
         return (1, out);
     }
-    resume(rt, carried, 0);
+    resume_cut(rt, carried, 0);
     let (out, _) = written(rt, alloc, carried, 2);
     (2, out)
 }
@@ -129,7 +102,7 @@ fn carried_next_piece(rt: HostRuntime) {
 fn carried_close(rt: HostRuntime) {
     let mut carried = ready(&rt, rt.alloc());
     expect_eq(&rt, put(&mut carried, b"bye\n"), Ok(4));
-    resume(&rt, &mut carried, 1);
+    resume_cut(&rt, &mut carried, 1);
     begin(rt.alloc());
     let closed = carried.close(0);
     end(rt.alloc());

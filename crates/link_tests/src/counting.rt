@@ -64,3 +64,15 @@ fn the_oldest_count_makes_room(rt: HostRuntime) {
     expect_eq(&rt, counts.find(&token(2)), Some(2));
     expect_eq(&rt, counts.find(&token(MOST + 2)), Some(MOST + 2));
 }
+
+// A link without an edit takes no place from links with edits.
+#[test]
+fn a_count_without_edits_makes_no_room(rt: HostRuntime) {
+    let mut counts = Counts::new(rt.alloc());
+    for number in 1..=MOST {
+        keep(&rt, &mut counts, number, true, 0);
+    }
+    keep(&rt, &mut counts, MOST + 1, false, 0);
+    expect_eq(&rt, counts.find(&token(1)), Some(1));
+    expect_eq(&rt, counts.find(&token(MOST + 1)), None);
+}

@@ -1,6 +1,6 @@
 //! Notes as the protocol spells them, first lines, and a link that is cut at each of its bytes.
 use crate::expect::expect_eq;
-use jup_resume::{Arrival, Confirming, FirstLine, Keeper, Note, Taker, Token};
+use jup_resume::{Arrival, Confirming, FirstLine, KeepFault, Keeper, Note, Taker, Token};
 use std::alloc::Global;
 use std::process::Abort;
 
@@ -18,6 +18,15 @@ fn is_spelled(rt: &impl Abort, alloc: Global, note: &Note, due: &str) {
     };
     let again = format!(in alloc; "{read}").expect(rt, "memory");
     expect_eq(rt, again.as_str(), due);
+}
+
+// The number and the words by which the protocol names it that an end has put as many lines as a count can name.
+#[test]
+fn a_line_too_many_has_a_fault_of_its_own(rt: HostRuntime) {
+    let spent = KeepFault::LinesSpent;
+    expect_eq(&rt, spent.number(), 37);
+    let words = format!(in rt.alloc(); "{spent}").expect(&rt, "memory");
+    expect_eq(&rt, words.as_str(), "all lines of the link were put");
 }
 
 #[test]

@@ -1,7 +1,7 @@
 //! Sites that lag: which messages are taken, where a session rests, and when a session gives its link up.
 
 use crate::expect::{expect_eq, expect_text};
-use crate::sessions::{EMPTY_TEXT, GREETING, close, open_hub, ran, ran_over};
+use crate::sessions::{EMPTY_TEXT, GREETING, close, lines, open_hub, ran, ran_over};
 use jup_session::{Bell, Ending, Open, Peer, serve_link};
 use std::alloc::Global;
 use std::io;
@@ -15,9 +15,11 @@ use std::time::{Clock, Duration};
 /// Operations that a site may be behind, and that it may not.
 pub(crate) const MOST: u32 = 262_144;
 
-const EDIT: &[u8] = b"batch 0 0 1\ndo 1 1 text ins 0 1.1 97\nbye\n";
+pub(crate) const EDIT: &[u8] = b"batch 0 0 1\ndo 1 1 text ins 0 1.1 97\nbye\n";
 
 const PING: &[u8] = b"ping 1\nbye\n";
+
+const BYE: &[u8] = b"bye\n";
 
 /// Operations that a site may be behind whose message of one operation is not long yet.
 const NOT_LONG: u32 = 131_072;
@@ -66,6 +68,11 @@ impl<'a, R> Ticking<'a, R> {
             looks: AtomicU64::new(0),
             slept: AtomicU64::new(0),
         }
+    }
+
+    // A second goes by.
+    pub(crate) fn pass(&self) {
+        self.looks.fetch_add(100, Ordering::SeqCst);
     }
 
     // Microseconds that it was to sleep in total.
@@ -162,6 +169,7 @@ fn a_site_that_lags_is_left_or_its_session_rests(rt: HostRuntime) {
     for &(behind, text, came, answer) in &[
         (MOST + 1, EDIT, left, "error 71\n"),
         (MOST + 1, PING, left, "error 71\n"),
+        (MOST + 1, BYE, (Ending::Bye, 0, 0), "bye\n"),
         (MOST, EDIT, (Ending::Bye, 1, 500), "bye\n"),
         (NOT_LONG, ONE, (Ending::Bye, 1, 0), "pong 1\nbye\n"),
         (NOT_LONG + 1, ONE, (Ending::Bye, 1, 500), "pong 1\nbye\n"),
@@ -322,4 +330,47 @@ fn any_other_writer_is_left_and_not_given_up(rt: HostRuntime) {
     for &(takes_a_byte, answer) in &[(false, ""), (true, "pon")] {
         expect_left(&rt, rt.alloc(), takes_a_byte, true, answer);
     }
+}
+
+/// Takes all that it is given. As it takes the first pong, others make operations by which its site is too far behind.
+#[derive(Drop)]
+struct Passed<'a> {
+    bell: &'a Bell,
+    text: &'a mut Vec<u8>,
+    others: u32,
+}
+
+impl<'a> Write for Passed<'a> {
+    fn write(&mut self, buf: &[u8]) -> io::Result<usize> {
+        if buf.starts_with(b"pong") {
+            self.bell.count(self.others);
+            self.others = 0;
+        }
+        self.text.write(buf)
+    }
+
+    fn flush(&mut self) -> io::Result<()> {
+        Ok(())
+    }
+}
+
+// A fetch has 64 messages, and one more waits when the site is looked at again.
+#[test]
+fn a_site_is_left_between_two_fetches_once_it_is_too_far_behind(rt: HostRuntime) {
+    let (bell, mut text) = (Bell::new(), Vec::new(rt.alloc()));
+    let pings = lines(&rt, rt.alloc(), "hello 3\n", "ping #", 0..65, "");
+    let from = Silent {
+        rt: &rt,
+        bell: &bell,
+        text: pings.as_bytes(),
+    };
+    let to = Passed {
+        bell: &bell,
+        text: &mut text,
+        others: MOST + 1,
+    };
+    let left = ran(&rt, rt.alloc(), from, to, &bell, &Open);
+    expect_eq(&rt, left.ending, Ending::Fault(71));
+    let due = lines(&rt, rt.alloc(), GREETING, "pong #", 0..64, "error 71\n");
+    expect_text(&rt, text.as_slice(), due.as_str());
 }

@@ -1,7 +1,7 @@
 //! Each read and each write of a session fails in turn. `tools/programs` has links and streams of the built programs fail.
 
 use crate::expect::{expect_eq, expect_text, expect_that};
-use crate::fakes::{Endless, FailsAfter, FailsAt, OneByOne};
+use crate::fakes::{Endless, FailsAfter, FailsAt, Full, OneByOne};
 use crate::sessions::{TYPED, ran, write_fails};
 use jup_cli::run_client;
 use jup_client::ClientEnd;
@@ -39,6 +39,17 @@ fn each_read_of_a_session(rt: HostRuntime) {
         expect_text(&rt, written.as_slice(), due);
         expect_eq(&rt, (len, left.taken, left.waiting), (len, taken, None));
     }
+}
+
+// A write that takes no byte has failed, and is not made again.
+#[test]
+fn a_session_whose_writer_is_full_ends(rt: HostRuntime) {
+    let left = ran(&rt, rt.alloc(), TYPED, Full, &Bell::new(), &Open);
+    expect_eq(
+        &rt,
+        (left.ending, left.taken, left.waiting),
+        (Ending::Fault(71), 0, None),
+    );
 }
 
 // The greeting, the pong and the last line are three writes. The pong meets the failure before the site says bye, which ends the session so, or after it.

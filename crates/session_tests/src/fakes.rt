@@ -84,6 +84,20 @@ impl<'a> Write for FailsAt<'a> {
     }
 }
 
+/// Takes nothing.
+#[derive(Drop)]
+pub(crate) struct Full;
+
+impl Write for Full {
+    fn write(&mut self, _buf: &[u8]) -> io::Result<usize> {
+        Ok(0)
+    }
+
+    fn flush(&mut self) -> io::Result<()> {
+        Ok(())
+    }
+}
+
 /// Gives a line at each read, and counts them.
 #[derive(Drop)]
 pub(crate) struct LineByLine<'a> {

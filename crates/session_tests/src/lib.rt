@@ -36,4 +36,6 @@ mod silent;
 #[cfg(test)]
 mod sockets;
 #[cfg(test)]
+mod turns;
+#[cfg(test)]
 mod watched;

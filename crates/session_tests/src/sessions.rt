@@ -136,7 +136,7 @@ fn operations_of_one_message_are_one_edit(rt: HostRuntime) {
 }
 
 // A line for each of these numbers, between a first and a last text. The `#` in it becomes the number.
-fn lines(
+pub(crate) fn lines(
     rt: &impl Abort,
     alloc: Global,
     first: &str,

@@ -1,11 +1,11 @@
 """The parts by which the kit judges a client of protocol 4. The kit is the client's server on one connection after another, and its user."""
-import re
+import contextlib
 import time
 
 import at_client
 import material
 import notes
-from links import END, Clock, Differs, LastingClient
+from links import END, Clock, Differs, LastingClient, narrow
 
 # The token of the link that the kit gives.
 TOKEN = "0f1e2d3c4b5a69788796a5b4c3d2e1f0"
@@ -26,22 +26,33 @@ class Server:
         self.part, self.counts, self.is_resumed = "", None, False
         # The counts of the client's `got`s, and for how many seconds it waited between its attempts.
         self.gots, self.waits = notes.Gots(), []
+        # The connection before the present one.
+        self.older = None
 
     def connects(self):
+        self.older = self.client.link
         self.client.connects()
         self.part, self.counts, self.is_resumed = "", None, False
 
     def tells(self, text):
-        """Sends a text, and counts its lines."""
+        """Sends a text, and counts its lines. Before its first line on a carrier the client may have sent nothing but its own."""
+        if self.counts is None and (line := self.client.link.lines.within(0)):
+            raise Differs(f"expected nothing before the server's first line, but got {line!r}")
         self.client.link.send(text)
         *lines, self.part = (self.part + text).split("\n")
         for line in lines:
             self.has_told(line)
 
+    def tells_late(self, lines):
+        """Sends lines on the connection before the present one, which the client may have closed."""
+        with contextlib.suppress(Differs):
+            self.older.send_lines(*lines)
+
     def has_told(self, line):
         if self.counts is None:
             self.begins(not self.is_resumed and notes.token_in(line))
             self.counts = line.startswith(("link ", "resumed "))
+            self.gots.begins(self.is_resumed)
         else:
             self.told += self.counts and notes.is_counted(line)
 
@@ -89,9 +100,13 @@ class Server:
             if not notes.is_as(wanted, found):
                 raise Differs(f"expected {wanted!r}, but got {found!r}")
 
+    def may_send(self, lines):
+        """The client sends these lines, or the first of them, or none."""
+        all(self.client.link.lines.passes(it) for it in material.lines_in(lines))
+
     def hears(self, wanted):
         line = self.client.link.lines.next(repr(wanted))
-        self.gots.hears(line)
+        self.gots.hears(line, self.client.link.lines.came_at)
         if line.startswith("got ") and self.gots.last > self.told:
             raise Differs(f"{line!r} confirms more than the {self.told} lines that were sent")
         return line
@@ -99,6 +114,15 @@ class Server:
     def is_quiet(self):
         if line := self.client.link.lines.within(QUIET):
             raise Differs(f"expected nothing for {QUIET} seconds, but got {line!r}")
+
+    def may_type(self, line):
+        """Types a command for a client that may have ended."""
+        with contextlib.suppress(Differs):
+            self.client.types(f"{line}\n")
+
+    def finds_no_server(self):
+        """Refuses each further connection of the client."""
+        self.client.listener.close()
 
     def tries(self, count):
         """Ends each of so many connections after the client's first line, and times the waits between them, which have to grow."""
@@ -141,6 +165,14 @@ class Server:
             "sends": lambda _, lines: self.is_sent(lines),
             "is told": lambda _, lines: self.tells_lines(material.lines_in(lines)),
             "is told bytes": lambda _, text: self.tells(material.text_of(text)),
+            "is told late": lambda _, lines: self.tells_late(material.lines_in(lines)),
+            "may type": lambda _, line: self.may_type(line),
+            "may send": lambda _, lines: self.may_send(lines),
+            "may print": lambda _, line: self.client.printed.passes(line),
+            "finds no server": lambda *_: self.finds_no_server(),
+            "will have little room": lambda *_: narrow(self.client.listener),
+            "stops reading": lambda *_: self.client.link.stop_reading(),
+            "reads on": lambda *_: self.client.link.read_on(),
             "is quiet": lambda *_: self.is_quiet(),
             "waits": lambda _, seconds: Clock.waits(int(seconds)),
             "leaves": lambda *_: self.leaves(),

@@ -34,8 +34,10 @@ class Site:
         """The next line of the server, which counts in protocol 4 unless it is a note."""
         line = self.link.lines.next(due)
         if self.lasting:
+            if self.is_first:
+                self.lasting.gots.begins(is_resumed=True)
             self.lasting.taken += not self.is_first and notes.is_counted(line)
-            self.lasting.gots.hears(line)
+            self.lasting.gots.hears(line, self.link.lines.came_at)
         self.is_first = False
         return line
 
@@ -147,8 +149,8 @@ class Sites:
             raise Differs(f"expected 'link TOKEN SECONDS', but got {told!r}")
         if token in [it.token for it in self.links.values()]:
             raise Differs(f"expected a new token, but got {told!r}")
-        self.links[who] = Lasting(token)
-        site.lasting = self.links[who]
+        self.links[who] = site.lasting = Lasting(token)
+        site.lasting.gots.begins(is_resumed=False)
 
     def opens(self, who, lines=()):
         """Greets by protocol 4, sends lines, and reads up to `ready`."""

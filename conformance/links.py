@@ -49,21 +49,30 @@ class Lines:
 
     def __init__(self, file):
         self.waiting, self.is_over, self.is_read = queue.Queue(), False, threading.Event()
+        # When the last line came that was taken. A line that was looked at, and is the next one still.
+        self.came_at, self.back = time.monotonic(), None
         self.is_read.set()
         threading.Thread(target=self.read, args=(file,), daemon=True).start()
 
     def read(self, file):
         try:
             while self.is_read.wait() and (line := file.readline()):
-                self.waiting.put(line.decode("latin-1").removesuffix("\n"))
+                self.waiting.put((line.decode("latin-1").removesuffix("\n"), time.monotonic()))
         except (OSError, ValueError):
             pass  # a file that fails has ended
-        self.waiting.put(END)
+        self.waiting.put((END, time.monotonic()))
+
+    def take(self, seconds):
+        line, self.came_at = self.waiting.get(timeout=seconds)
+        return line
 
     def next(self, due="a line"):
         """The next line. After the last one every call returns END. `due` describes what is expected."""
+        if self.back:
+            line, self.back = self.back, None
+            return line
         try:
-            line = END if self.is_over else self.waiting.get(timeout=self.patience)
+            line = END if self.is_over else self.take(self.patience)
         except queue.Empty:
             raise Differs(f"expected {due}, but nothing came in {self.patience:g} seconds") from None
         self.is_over = line == END
@@ -71,11 +80,19 @@ class Lines:
 
     def within(self, seconds):
         """The next line, or None if none comes in so many seconds. After the last line nothing comes."""
+        if self.back:
+            return self.next()
         with contextlib.suppress(queue.Empty):
-            line = END if self.is_over else self.waiting.get(timeout=seconds)
+            line = END if self.is_over else self.take(seconds)
             self.is_over = line == END
             return None if self.is_over else line
         return None
+
+    def passes(self, line):
+        """Takes the next line if it is this one. Any other stays the next. Returns whether it was this one."""
+        found = self.next(repr(line))
+        self.back = None if is_as(line, found) else found
+        return self.back is None
 
     def are_next(self, *wanted):
         """Tests that these lines come next, in this order. `*` is any number."""
@@ -99,15 +116,25 @@ def is_as(wanted, found):
     return wanted.count(" ") == found.count(" ") and all(it.isdigit() if due == "*" else it == due for due, it in words)
 
 
+def narrow(connection):
+    """Gives small buffers to a socket, or to the connections that a listener accepts. So few bytes fit in before the kit reads them."""
+    connection.setsockopt(socket.SOL_SOCKET, socket.SO_RCVBUF, 4096)
+    connection.setsockopt(socket.SOL_SOCKET, socket.SO_SNDBUF, 4096)
+    connection.setsockopt(socket.IPPROTO_TCP, socket.TCP_MAXSEG, 536)
+
+
 class Pour:
     """Bytes that a thread of its own sends, as fast as the other end takes them."""
 
     PIECE = 4096
+    # How many bytes the system holds of what is sent. More could fill the other end's window, and then a close of that end is not seen.
+    ROOM = 65536
     # How many seconds the other end takes none before that counts as a stop.
     quiet = 1.0
 
     def __init__(self, connection):
         self.connection, self.left, self.sent, self.was_refused = connection, [], 0, False
+        self.connection.setsockopt(socket.SOL_SOCKET, socket.SO_SNDBUF, self.ROOM)
         self.bell = threading.Condition()
         threading.Thread(target=self.run, daemon=True).start()
 
@@ -152,9 +179,7 @@ class Link:
             family, kind, _, _, place = socket.getaddrinfo(host, int(port), type=socket.SOCK_STREAM)[0]
             connection = socket.socket(family, kind)
             if is_narrow:
-                connection.setsockopt(socket.SOL_SOCKET, socket.SO_RCVBUF, 4096)
-                connection.setsockopt(socket.SOL_SOCKET, socket.SO_SNDBUF, 4096)
-                connection.setsockopt(socket.IPPROTO_TCP, socket.TCP_MAXSEG, 536)
+                narrow(connection)
             connection.settimeout(Lines.patience)
             connection.connect(place)
             connection.settimeout(None)
@@ -295,7 +320,9 @@ class LastingClient(Client):
                 raise Differs("the client did not connect")
 
     def has_connected(self):
-        """Whether the client connects again within a moment."""
+        """Whether the client connects again within a moment. It cannot once nobody listens."""
+        if self.listener.fileno() < 0:
+            return False
         self.listener.settimeout(self.MOMENT)
         with contextlib.suppress(TimeoutError):
             self.link = Link(self.listener.accept()[0])

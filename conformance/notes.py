@@ -1,7 +1,8 @@
 """The notes of protocol 4, as the parts of a server and those of a client read and count them."""
 import re
+import time
 
-from links import END, Differs, is_as
+from links import END, Clock, Differs, is_as
 
 WORDS = ("link", "resume", "resumed", "ended", "got")
 GOT = r"got (0|[1-9]\d*)"
@@ -42,14 +43,26 @@ def pieces(rest):
 
 
 class Gots:
-    """The counts that one end of a link has confirmed. Each has to be at least the one before it."""
+    """The counts that one end of a link has confirmed. Each has to be more than the one before it, or the same at a carrier's beginning and after a minute."""
+
+    # For how many seconds an end does not confirm the same count again. It may after 60, and the kit may see a line later than it came.
+    PAUSE = 20
 
     def __init__(self):
-        self.last = 0
+        # The last count, when that came, and whether this carrier may begin with the same.
+        self.last, self.told, self.begins_again = 0, 0.0, True
 
-    def hears(self, line):
-        """Notes a line, and reports a `got` that confirms less than an earlier one."""
+    def begins(self, is_resumed):
+        """A carrier begins."""
+        self.begins_again, self.told = is_resumed, time.monotonic()
+
+    def hears(self, line, came_at):
+        """Notes a line that came at a time, and reports a `got` that confirms less than an earlier one, or no more where that is not due."""
         found = re.fullmatch(GOT, line)
-        if found and int(found[1]) < self.last:
+        if not found:
+            return
+        if int(found[1]) < self.last:
             raise Differs(f"{line!r} confirms less than an earlier 'got {self.last}'")
-        self.last = int(found[1]) if found else self.last
+        if int(found[1]) == self.last and not self.begins_again and came_at - self.told < self.PAUSE / Clock.speed:
+            raise Differs(f"{line!r} confirms no more than an earlier one")
+        self.last, self.told, self.begins_again = int(found[1]), came_at, False

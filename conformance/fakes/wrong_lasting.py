@@ -2,8 +2,8 @@
 import math
 
 from boards import Fault
-from carriers import Carrier
-from lasting import Link
+from carriers import GOT, Carrier
+from lasting import Link, is_last
 
 
 class CoversParts(Link):
@@ -11,6 +11,15 @@ class CoversParts(Link):
 
     def covers(self):
         self.covered = self.taken
+
+
+class CoversRefused(Link):
+    """Its counts have the message that the star refused."""
+
+    def takes_no_more(self):
+        with self.bell:
+            self.covers()
+            super().takes_no_more()
 
 
 class PartsForgotten(Link):
@@ -314,6 +323,95 @@ class NeverIdle(Link):
     most_idle = 100_000
 
 
+class GotIsAck(Link):
+    """It takes a `got` for an acknowledgement of the edits that it covers."""
+
+    def confirm(self, carrier, count):
+        super().confirm(carrier, count)
+        with self.session.star.lock:
+            self.session.seat.end.take_ack(self.session.seat.end.sent)
+
+
+class AckIsGot(Link):
+    """It takes an acknowledgement for a `got` of all that it wrote."""
+
+    def offer(self, carrier, line):
+        super().offer(carrier, line)
+        if isinstance(line, str) and line.startswith("ack "):
+            self.drop(carrier.written)
+
+
+class ConfirmsAgain(Link):
+    """It sends `got` before each line, whether or not its count has grown."""
+
+    def is_got_due(self, carrier):
+        return super().is_got_due(carrier) or not self.has_last and carrier.written < self.put_count()
+
+
+class HoldsInTotal(Link):
+    """Once it is over, it holds its lines for so many seconds in total."""
+
+    def tend(self, now):
+        super().tend(now)
+        if self.over_at is not None and now - self.over_at >= self.seconds and not self.has_only_count():
+            self.lose()
+
+
+class LosesWhatWaits(Link):
+    """After a fault it puts only its last line."""
+
+    def put(self, line):
+        if self.is_taking or self.has_bye or is_last(line):
+            super().put(line)
+
+
+class LooseNotes(Carrier):
+    """It takes a misspelled `got` for one."""
+
+    def take(self, line):
+        word, _, count = line.partition(" ")
+        super().take(f"got {int(count)}" if word == "got" and count.isdigit() and int(count) < 2**32 else line)
+
+
+class DropsFirstLines(Carrier):
+    """It drops a note that only a first line may be."""
+
+    def take(self, line):
+        if line.split(" ")[0] not in ("link", "resume", "resumed", "ended"):
+            super().take(line)
+
+
+class NotesWithinLines(Carrier):
+    """It sends a `got` as soon as that is due, also within a line."""
+
+    def send(self, data):
+        while data:
+            super().send(data[:9])
+            data = data[9:]
+            if self.link.is_got_due(self):
+                super().send(memoryview(self.link.got(self) + b"\n"))
+
+
+class FromTheResumeOn(Carrier):
+    """It refuses a `got` below the count of the `resume`."""
+
+    def __init__(self, link, connection, written, notes, held):
+        super().__init__(link, connection, written, notes, held)
+        self.begun = written
+
+    def take(self, line):
+        found = GOT.fullmatch(line)
+        super().take("got" if found and int(found[1]) < self.begun else line)
+
+
+class SinceTheResume(FromTheResumeOn):
+    """A `got` may count only as many lines as it has written on this carrier."""
+
+    def take(self, line):
+        found = GOT.fullmatch(line)
+        Carrier.take(self, "got" if found and int(found[1]) > self.written - self.begun else line)
+
+
 def link_with(carrier):
     """The class of a link with such carriers."""
 
@@ -325,6 +423,7 @@ def link_with(carrier):
 
 WAYS = {
     "covers-parts": CoversParts,
+    "covers-refused": CoversRefused,
     "parts-forgotten": PartsForgotten,
     "confirmed-by-resume": ConfirmedByResume,
     "two-carriers": TwoCarriers,
@@ -359,5 +458,15 @@ WAYS = {
     "drops-for-ever": link_with(ReadsForEver),
     "drops-all": link_with(ReadsAll),
     "patient": link_with(Patient),
+    "loose-notes": link_with(LooseNotes),
+    "drops-first-lines": link_with(DropsFirstLines),
+    "notes-within-lines": link_with(NotesWithinLines),
+    "from-the-resume-on": link_with(FromTheResumeOn),
+    "since-the-resume": link_with(SinceTheResume),
+    "got-is-ack": GotIsAck,
+    "ack-is-got": AckIsGot,
+    "confirms-again": ConfirmsAgain,
+    "holds-in-total": HoldsInTotal,
+    "loses-what-waits": LosesWhatWaits,
     "never-idle": NeverIdle,
 }

@@ -1,8 +1,11 @@
 """Links of clients that are wrong on purpose. Each is wrong in one way."""
+import contextlib
 import math
+import threading
+import time
 
 from boards import Fault
-from resuming import REFUSALS, Carrier, Cut, Link, Waits
+from resuming import MOST_ATTEMPTS, REFUSALS, Carrier, Cut, Link, Waits
 
 
 class FromConfirmed(Carrier):
@@ -181,6 +184,81 @@ class Patient(Carrier):
     silence = 100_000
 
 
+class GotsOfEachCarrier(Carrier):
+    """It takes any `got` on a carrier that is at least the last one there."""
+
+    last = 0
+
+    def hears_got(self, line):
+        up, count = self.link.up, int(line.split(" ")[1])
+        if not self.last <= count <= self.written:
+            self.refuses(36)
+        self.last = count
+        up.confirm(max(up.confirmed, count))
+
+
+class ConfirmsAgain(Carrier):
+    """It sends `got` for each line that it writes, whether or not its count has grown."""
+
+    def write(self):
+        super().write()
+        self.is_got_due |= self.is_line and not self.left
+
+
+class DropsTheRest(Carrier):
+    """It writes a few bytes at a time. After the server's last line it drops the rest of a line that it has begun."""
+
+    def write(self):
+        sent = self.connection.send(self.left[:7])
+        self.left, self.handed = self.left[sent:], time.monotonic()
+        if self.is_line and not self.left:
+            self.written += 1
+
+    def hears(self, line):
+        super().hears(line)
+        if self.link.has_last:
+            self.left = b""
+
+
+class IdleBeforeTheFirstLine(Carrier):
+    """Its minute begins with the connection."""
+
+    def looks_at_the_clock(self):
+        super().looks_at_the_clock()
+        self.is_got_due |= self.idle <= time.monotonic() - self.handed
+
+    def patience(self):
+        return max(0, min(super().patience(), self.handed + self.idle - time.monotonic()))
+
+
+class HearsWholeLines(Carrier):
+    """It counts only whole lines as heard."""
+
+    def read(self):
+        heard, taken = self.heard, self.link.taken
+        super().read()
+        if self.link.taken == taken:
+            self.heard = heard
+
+
+class HearsOlder(Carrier):
+    """It still takes what comes on an older carrier."""
+
+    def carry(self):
+        try:
+            super().carry()
+        except OSError:
+            threading.Thread(target=self.hears_on, args=(self.connection.dup(),), daemon=True).start()
+            raise
+
+    def hears_on(self, connection):
+        connection.setblocking(True)
+        with connection, contextlib.suppress(OSError):
+            while data := connection.recv(65536):
+                for line in data.decode("latin-1").splitlines():
+                    self.link.takes(line)
+
+
 class Forgetful(Link):
     """It does not count what it takes, so it asks for all lines again."""
 
@@ -206,6 +284,24 @@ class TriesForEver(Link):
     def carry(self):
         self.attempts = math.inf
         super().carry()
+
+
+class CountsAnswers(Link):
+    """An attempt that no server answers does not count."""
+
+    def carry(self):
+        try:
+            super().carry()
+        except ConnectionRefusedError:
+            self.attempts = math.inf
+
+
+class CountsAttemptsAnew(Link):
+    """A link that was lost before its `ready` leaves it three attempts."""
+
+    def is_lost(self, ended, fault):
+        self.attempts = MOST_ATTEMPTS
+        super().is_lost(ended, fault)
 
 
 class NoOlderProtocol(Link):
@@ -310,7 +406,15 @@ WAYS = {
     "ends-unconfirmed": link_with(EndsUnconfirmed),
     "never-idle": link_with(NeverIdle),
     "patient": link_with(Patient),
+    "gots-of-each-carrier": link_with(GotsOfEachCarrier),
+    "confirms-again": link_with(ConfirmsAgain),
+    "drops-the-rest": link_with(DropsTheRest),
+    "idle-before-the-first-line": link_with(IdleBeforeTheFirstLine),
+    "hears-whole-lines": link_with(HearsWholeLines),
+    "hears-older": link_with(HearsOlder),
     "forgetful": Forgetful,
+    "counts-answers": CountsAnswers,
+    "counts-attempts-anew": CountsAttemptsAnew,
     "any-resumed": AnyResumed,
     "tries-for-ever": TriesForEver,
     "no-older-protocol": NoOlderProtocol,

@@ -16,7 +16,7 @@ const LAST_PLACE = 4294967295;
 export const FAULT = {
   NoWindow: 1, NoWidget: 2, WrongKind: 3, BadPlace: 4, BadValue: 5, LongText: 6, Backlog: 7, NoMemory: 8, Spent: 9, DoubleId: 10,
   TooMany: 11, BadId: 12, BadBounds: 13, BadBatch: 15, BadCount: 20, BadAck: 21, BadName: 22, BadOp: 23, Stopped: 25, Full: 30,
-  SitesSpent: 31, LogFull: 32, BadLine: 40, LongLine: 41, BadVersion: 42, Misplaced: 44, BadItemName: 45, BadLimit: 50, BadSite: 51,
+  SitesSpent: 31, LogFull: 32, NoSuchLink: 35, BadTaken: 36, BadLine: 40, LongLine: 41, BadVersion: 42, Misplaced: 44, BadItemName: 45, BadLimit: 50, BadSite: 51,
 };
 
 export class Fault extends Error {
@@ -278,7 +278,7 @@ const BOARD_WORDS = new Set(["window", "text", "list", "toggle", "slider", "char
 
 // `send` takes text of whole lines that goes to the server. `told` is called with what happened:
 // - "ready" once the board is there, and "pong" with its number
-// - "made" with an edit of its own: what `applyAll` returned (`took`), and how many edits it had made before (`nth`)
+// - "made" with commands of its own: what `applyAll` returned (`took`), and how many edits it had made before theirs (`nth`)
 // - "came" with an edit of others after it is applied: as it was sent (`raw`), as it was applied (`took`), and its `heard`. Then "changed"
 //   with each operation of it.
 export class Site {
@@ -294,6 +294,7 @@ export class Site {
   #insertions = 0;
   #pings = 0;
   #saidBye = false;
+  #held = null; // the newest edit, if it was not sent yet
   #lines = []; // those of the board, until all are there
   #coming = null; // an edit of which more lines come
   #send;
@@ -304,13 +305,10 @@ export class Site {
     this.#told = told;
   }
 
-  greet() {
-    this.#send("hello 3\n");
-  }
-
   // Takes one line of the server. A fault stops the site.
   hear(line) {
     if (this.stage === "stopped") return;
+    this.put();
     try {
       this.#take(readLine(line));
     } catch (fault) {
@@ -331,6 +329,7 @@ export class Site {
   }
 
   bye() {
+    this.put();
     this.#saidBye = true;
     this.#send("bye\n");
   }
@@ -340,20 +339,42 @@ export class Site {
     return this.#waiting.length;
   }
 
+  // How many of its edits were sent.
+  get sent() {
+    return this.made - (this.#held === null ? 0 : 1);
+  }
+
   // Makes commands one edit, which is applied and sent. Returns its operations. A fault leaves everything as it was.
   edit(commands) {
+    this.put();
+    const ops = this.extend(commands);
+    this.put();
+    return ops;
+  }
+
+  // The same while nothing can be sent. The commands go into the newest edit if that has room, and it is sent by `put`, or once it is full.
+  extend(commands) {
     if (this.stage !== "open") fail(FAULT.Stopped);
     if (commands.length < 1 || commands.length > MOST_OPERATIONS) fail(FAULT.BadBatch);
+    if (this.#held?.length + commands.length > MOST_OPERATIONS) this.put();
     const took = this.#apply(commands);
     const ops = took.map(({ op }) => op);
-    const nth = this.made;
-    this.#waiting.push(ops);
-    const lines = [`batch ${nth} ${this.heard} ${ops.length}`, ...ops.map(operationLine)];
-    this.made += 1;
+    if (this.#held === null) {
+      this.#waiting.push((this.#held = []));
+      this.made += 1;
+    }
+    this.#held.push(...ops);
+    this.#told("made", { took, nth: this.made - 1 });
+    return ops;
+  }
+
+  // Sends the newest edit, if that waits for more. What comes then counts as received after it.
+  put() {
+    if (this.#held === null) return;
+    const lines = [`batch ${this.made - 1} ${this.heard} ${this.#held.length}`, ...this.#held.map(operationLine)];
+    this.#held = null;
     this.#unanswered = 0;
     this.#send(`${lines.join("\n")}\n`);
-    this.#told("made", { took, nth });
-    return ops;
   }
 
   #apply(commands) {
@@ -367,6 +388,7 @@ export class Site {
   }
 
   #testRoom() {
+    if (this.#held !== null) return;
     if (this.#waiting.length >= MOST_WAITING) fail(FAULT.Backlog);
     if (this.made >= this.limit) fail(FAULT.Spent);
   }

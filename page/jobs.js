@@ -60,7 +60,7 @@ export class Job {
       this.#taken += 1;
       if (isInsertion) commands.push({ verb: "ins", win, wid, place: start - goneBefore(start) + inserted++, value });
       else {
-        const found = placeOf(widget.items, name, this.#near);
+        const found = placeOf(widget.items, this.view.nameOf(name), this.#near);
         if (found < 0) continue;
         commands.push({ verb: "del", win, wid, place: found - goneBefore(found) });
         gone.push(found);
@@ -88,7 +88,7 @@ export class Job {
 
   #placeOfInsertion(items) {
     if (this.after === null) return 0;
-    const found = placeOf(items, this.after, this.place - 1);
+    const found = placeOf(items, this.view.nameOf(this.after), this.place - 1);
     return found >= 0 ? found + 1 : Math.min(this.place, items.length);
   }
 }

@@ -42,10 +42,15 @@ export class ListView extends View {
 
   // ---- What others do ----
 
+  // Edits are counted from the first again.
+  rebind(widget, isSame) {
+    this.#relabels = new Relabels();
+    super.rebind(widget, isSame);
+  }
+
   // Each row goes to the item at its place. A draft stays, and goes only to an item with the label that it began with.
   forgetNames() {
     const { items } = this.widget;
-    this.#relabels = new Relabels();
     this.#rows = new Map();
     this.#shown.filter((row) => !row.isGhost).forEach((row, at) => {
       const item = items[at];
@@ -56,7 +61,7 @@ export class ListView extends View {
 
   // An edit of others came with this operation, when the server had `heard` edits of this page.
   came({ verb, name, value }, heard) {
-    const now = this.page.nameOf(this, name);
+    const now = this.nameOf(name);
     const row = this.#rows.get(name) ?? this.#rows.get(now);
     if (!row) return;
     if (verb === "del") this.#follows(row, now);
@@ -67,7 +72,7 @@ export class ListView extends View {
 
   // Rows go with their items to the names that these have now.
   follow() {
-    for (const row of [...this.#rows.values()]) if (!this.widget.names.has(row.name)) this.#follows(row, this.page.nameOf(this, row.name));
+    for (const row of [...this.#rows.values()]) if (!this.widget.names.has(row.name)) this.#follows(row, this.nameOf(row.name));
   }
 
   #follows(row, name) {

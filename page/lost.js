@@ -1,10 +1,10 @@
 // What a server may not have taken, found again as text to copy.
-import { counted, difference, shownAs, textOf } from "./texts.js";
+import { counted, difference, grouped, keyOf, shownAs, textOf } from "./texts.js";
 
-const key = ({ win, wid }) => `${win}.${wid}`;
-const isOf = (site, name) => name.startsWith(`${site}.`);
+export const isOf = (site, name) => name.startsWith(`${site}.`);
 
-function* itemsOf(board) {
+// The items of a board by their widgets and names.
+export function* itemsOf(board) {
   for (const [win, widgets] of board.windows) {
     for (const [wid, { items }] of widgets) for (const item of items ?? []) yield [`${win}.${wid} ${item.name}`, item];
   }
@@ -25,7 +25,7 @@ export function isSameRun(old, now) {
 export function missing(edits, site, board) {
   const values = new Map();
   for (const [at, { name, value }] of itemsOf(board)) if (isOf(site, name)) values.set(at, value);
-  const isThere = (op) => op.verb === "ins" && values.get(`${key(op)} ${op.name}`) === op.value;
+  const isThere = (op) => op.verb === "ins" && values.get(`${keyOf(op)} ${op.name}`) === op.value;
   return edits.slice(1 + edits.findLastIndex((ops) => ops.some(isThere)));
 }
 
@@ -34,8 +34,8 @@ export function missing(edits, site, board) {
 export function maybeMissing(edits, old, now) {
   const tests = new Map();
   const isLacking = (op) => {
-    if (!tests.has(key(op))) tests.set(key(op), lackOf(old.widget(op.win, op.wid), now.widget(op.win, op.wid)));
-    return tests.get(key(op))(op);
+    if (!tests.has(keyOf(op))) tests.set(keyOf(op), lackOf(old.widget(op.win, op.wid), now.widget(op.win, op.wid)));
+    return tests.get(keyOf(op))(op);
   };
   return edits.map((ops) => ops.filter(isLacking));
 }
@@ -66,9 +66,8 @@ function lackOfText(was, is) {
 
 // What the edits did, in words, by the keys of the widgets. `board` is the one that they were made on, and `rests` maps the key of a text
 // to a job on it that has steps to go.
-export function wordsOf(edits, board, rests) {
-  const touched = new Map(Array.from(rests.keys(), (it) => [it, []]));
-  for (const op of edits.flat()) touched.set(key(op), [...(touched.get(key(op)) ?? []), op]);
+export function wordsOf(edits, board, rests = new Map()) {
+  const touched = new Map([...Array.from(rests.keys(), (it) => [it, []]), ...grouped(edits.flat(), keyOf)]);
   const words = new Map();
   for (const [it, ops] of touched) {
     const found = widgetWords(board.widget(...it.split(".").map(Number)), ops, rests.get(it));

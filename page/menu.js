@@ -13,6 +13,7 @@ export function openMenu(page, isTelling) {
     "Download the printed board": () => download("board.board", "text/plain", asPrinted(page.board)),
     "Download as JSON": () => download("board.json", "application/json", asJson(page.board, captionOf)),
     Print: () => print(),
+    "Forget this board on this device": () => page.keeping.forget(),
   };
   const buttons = Object.entries(files).map(([name, click]) => make("button", { type: "button", textContent: name, click: () => (found("menu").hidePopover(), click()) }));
   const tells = make("input", { type: "checkbox", checked: true, id: "tells", change: () => isTelling(tells.checked) });

@@ -1,9 +1,6 @@
 // What waits for the user: drafts that are not sent, and notices. A notice is in the widget that it concerns, or above the board.
 import { copy, found, make } from "./view.js";
 
-// Where the tab keeps the texts that are offered, so that they are there after a reload.
-const KEPT = "gidzvruka offers";
-
 // What is held for now. `told` is called when there is more or less of it.
 export class Held {
   #held = new Set();
@@ -40,20 +37,20 @@ export class Notices extends Held {
   }
 
   // A notice has words, and maybe a text to copy and choices: what is done on a click, by the name of its button. A choice and "Dismiss"
-  // end the notice. Returns its element.
-  add({ view = null, words, text = "", choices = {} }) {
+  // end the notice. A text that is kept elsewhere is folded, and the choices say what becomes of it. Returns its element.
+  add({ view = null, words, text = "", choices = {}, isFolded = false }) {
     const element = make("article", { className: "notice", tabIndex: -1 }, make("p", { className: "notice-words", role: "alert", textContent: words }));
-    const buttons = Object.entries({ ...choices, Dismiss: () => {} }).map(([name, click]) => make("button", { type: "button", textContent: name, click: () => (this.end(element), click()) }));
+    const buttons = Object.entries(isFolded ? choices : { ...choices, Dismiss: () => {} }).map(([name, click]) => make("button", { type: "button", textContent: name, click: () => (this.end(element), click()) }));
     if (text !== "") {
       const copies = make("button", { type: "button", textContent: "Copy", click: () => copy(text, copies) });
-      element.append(make("textarea", { rows: 3, readOnly: true, value: text, ariaLabel: words }));
-      buttons.unshift(copies);
-      this.#offers.set(element, { key: view?.key ?? "", words, text });
+      const area = make("textarea", { rows: 3, readOnly: true, value: text, ariaLabel: words });
+      element.append(isFolded ? make("details", {}, make("summary", { textContent: "Show" }), area) : area);
+      buttons.splice(-1, 0, copies);
+      if (!isFolded) this.#offers.set(element, { key: view?.key ?? "", words, text });
     }
     element.append(make("p", { className: "row wraps" }, ...buttons));
     (view?.element ?? this.#place).append(element);
     this.hold(element, true);
-    this.keep();
     return element;
   }
 
@@ -69,22 +66,9 @@ export class Notices extends Held {
     first?.focus();
   }
 
-  // Keeps the texts that are offered, and more of them if the tab is about to go.
-  keep(more = []) {
-    try {
-      sessionStorage.setItem(KEPT, JSON.stringify([...this.#offers.values(), ...more]));
-    } catch {
-      // The browser keeps nothing for this page. It then asks before the tab is closed.
-    }
-  }
-
-  // What an earlier page of this tab has kept.
-  kept() {
-    try {
-      return JSON.parse(sessionStorage.getItem(KEPT)) ?? [];
-    } catch {
-      return [];
-    }
+  // The texts that are offered.
+  get offers() {
+    return [...this.#offers.values()];
   }
 
   // Ends a notice. The focus goes from it to the title of the page, where a key does no harm.
@@ -93,6 +77,5 @@ export class Notices extends Held {
     element.remove();
     this.#offers.delete(element);
     this.hold(element, false);
-    this.keep();
   }
 }

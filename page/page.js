@@ -1,6 +1,7 @@
 // The page: what its link tells, the edits and jobs of its views, and what its head says.
 import { FAULT, Fault, MOST_OPERATIONS, MOST_WAITING } from "./core.js";
 import { Drawing } from "./drawing.js";
+import { Keeping } from "./keeping.js";
 import { Link, later } from "./link.js";
 import { isSameRun } from "./lost.js";
 import { openMenu } from "./menu.js";
@@ -22,7 +23,10 @@ const NEEDED = SHORT / MOST_OPERATIONS;
 const WHO = 5000;
 // The refusals that a user can meet. Any other fault of an edit is a mistake of the page.
 const REFUSALS = new Set([FAULT.LongText, FAULT.Backlog, FAULT.NoMemory, FAULT.Spent, FAULT.LogFull]);
+const UNSENT = "You typed this here, and it was not sent.";
 const isFull = (fault) => fault === FAULT.Spent || fault === FAULT.LogFull;
+// The ends of a link that a user need not know: the page joins again.
+const UNSAID = new Set([null, FAULT.Full, FAULT.NoSuchLink, FAULT.BadTaken, FAULT.BadVersion]);
 
 // The text at an address beside the page's own, or null if the server does not give it.
 async function textAt(name) {
@@ -38,12 +42,14 @@ class Page {
   drafts = new Held(() => this.#tell()); // what is typed and not sent
   notices = new Notices(() => this.#tell());
   takingBack = new TakingBack(this);
+  untaken = new Untaken(this);
+  keeping = new Keeping(this);
   isReadOnly = false; // whether the server takes no more edits
   #windows;
   #drawing;
   #jobs = [];
-  #untaken = new Untaken(this);
   #shown = null; // the site whose board is shown
+  #ended = null; // how the link of that site ended
   #reasons = new Map(); // the notices that say why something was refused, by their words
   #isWaiting = false; // whether the server has no room for this page
   #isWorking = false; // whether a task goes on with jobs
@@ -62,11 +68,11 @@ class Page {
 
   #listen() {
     addEventListener("pagehide", () => this.#leave());
-    addEventListener("pageshow", (event) => event.persisted && this.#comeBack());
-    addEventListener("beforeunload", (event) => this.#isSaved() || event.preventDefault());
-    addEventListener("online", () => this.link.hurry());
+    addEventListener("pageshow", (event) => event.persisted && this.link.comeBack());
+    addEventListener("beforeunload", (event) => this.#isSaved() || this.keeping.isKeeping || event.preventDefault());
+    addEventListener("online", () => this.link.hurry(true));
     document.addEventListener("visibilitychange", () => (document.hidden ? this.#hide() : this.link.hurry()));
-    for (const act of ["keydown", "pointerdown"]) document.addEventListener(act, () => this.link.isOpen || this.link.hurry());
+    for (const act of ["keydown", "pointerdown"]) document.addEventListener(act, () => this.link.hurry());
     found("try-now").addEventListener("click", () => this.link.hurry());
     found("notice-count").addEventListener("click", () => this.notices.show());
   }
@@ -99,17 +105,25 @@ class Page {
     const { site } = this.link;
     const old = this.#shown;
     const isFirst = old === null;
-    const isSame = !isFirst && isSameRun(old, site);
+    const isSame = !isFirst && site.site > old.site && (this.#ended.goesOn || isSameRun(old, site));
+    // A page that went on without its link makes again what the server has not taken.
+    const goesOn = isSame && old.stage === "open" && !this.isReadOnly;
+    const taken = goesOn ? (this.#ended.taken ?? this.untaken.taken(old, site.board)) : Infinity;
+    if (!goesOn) this.#lose(old);
+    else {
+      this.takingBack.lost();
+      this.untaken.forget();
+    }
     this.#shown = site;
     this.#isWaiting = false;
     this.#windows.show(this.board, isSame);
-    if (!isFirst) this.takingBack.joined(old.board, isSame);
+    if (!isFirst) this.takingBack.joined(old.board, isSame, taken);
     this.#drawing.now();
-    this.#jobs = this.#untaken.settle(isSame);
+    if (!goesOn) this.#jobs = this.untaken.settle(isSame);
     this.#setOpen();
     if (!this.isReadOnly) for (const element of this.#reasons.values()) this.notices.end(element);
     for (const view of this.views.values()) view.sendDrafts();
-    if (isFirst) this.#offerKept();
+    if (isFirst) this.keeping.open();
     else this.#readCaptions();
     this.#status.announce("link", "Connected");
     this.#countLinks();
@@ -136,26 +150,49 @@ class Page {
     this.takingBack.mend();
     this.#drawing.soon();
     this.#work();
-    this.#untaken.lookAgain();
+    this.untaken.lookAgain();
   }
 
   confirmed() {
-    this.#untaken.confirmed(this.link.confirmed);
+    this.untaken.confirmed(this.link.confirmed);
     for (const view of this.views.values()) view.confirmed(this.link.confirmed);
     this.#tell();
   }
 
+  carried() {
+    this.#status.announce("link", "Connected");
+    this.#countLinks();
+    this.#tell();
+  }
+
+  // The site has no carrier. The words change once the server may have given the link up.
+  cut() {
+    this.#status.count(0);
+    this.#status.announce("link", this.link.isOpen ? "Offline. You can go on typing" : "The connection is lost. This page joins again by itself");
+    setTimeout(() => this.#tell(), this.link.grace);
+    this.#tell();
+  }
+
+  ended(it) {
+    this.#ended = it;
+  }
+
+  // The link has ended, or the page could not join.
   lost(fault) {
-    const isNew = this.#shown !== null && !["lost", "waiting"].includes(document.body.dataset.stage);
+    const isNew = this.#shown !== null && !["lost", "waiting", "offline"].includes(document.body.dataset.stage);
     this.isReadOnly = isFull(fault);
     this.#isWaiting = fault === FAULT.Full;
-    if (fault !== undefined && !this.#isWaiting) this.#explain(reasonOf(fault));
-    this.takingBack.lost();
-    this.#untaken.lose(this.link.site, this.#jobs);
-    this.#jobs = [];
+    if (!UNSAID.has(fault)) this.#explain(reasonOf(fault));
+    if (!this.link.isOpen) this.#lose(this.#shown);
     this.#setOpen();
-    this.#status.count(0);
-    if (isNew) this.#status.announce("link", "The connection is lost. This page joins again by itself");
+    if (isNew) this.cut();
+  }
+
+  // What the next board may lack is no more on its way.
+  #lose(old) {
+    this.takingBack.lost();
+    this.untaken.lose(old, this.#jobs);
+    this.#jobs = [];
   }
 
   // ---- Edits ----
@@ -168,7 +205,7 @@ class Page {
     try {
       const ops = this.link.edit(commands);
       this.takingBack.note(how);
-      this.#untaken.add({ ops, view, job, after });
+      this.untaken.add({ ops, took: this.takingBack.took, view, job, after });
       this.#tell();
       return ops;
     } catch (fault) {
@@ -211,9 +248,10 @@ class Page {
     return all;
   }
 
-  // Begins a job that it does in pieces.
+  // Begins a job that it does in pieces. One that brings in what others may need comes first.
   begin(job) {
-    this.#jobs.push(job);
+    if (job.isFirst) this.#jobs.unshift(job);
+    else this.#jobs.push(job);
     this.#setOpen();
     this.#work();
   }
@@ -223,6 +261,7 @@ class Page {
     if (!this.#jobs.includes(job)) return;
     this.#jobs = this.#jobs.filter((it) => it !== job);
     job.end();
+    this.#drawing.now();
     this.#setOpen();
   }
 
@@ -236,7 +275,12 @@ class Page {
   }
 
   isBusyWith(view) {
-    return this.#jobs.some((job) => job.view === view);
+    return this.#jobs.some((job) => job.view === view && !job.isFirst);
+  }
+
+  // Whether it brings in what it did without a link. Views then stay as they are.
+  get isJoining() {
+    return this.#jobs[0]?.isFirst ?? false;
   }
 
   #hasRoom(edits) {
@@ -275,30 +319,32 @@ class Page {
   // ---- What waits for its user ----
 
   #isSaved() {
-    const isSent = !this.#untaken.isPending && this.#jobs.length === 0 && this.link.confirmed === this.editCount;
+    const isSent = !this.untaken.isPending && this.#jobs.length === 0 && this.untaken.waiting === 0;
     return isSent && this.drafts.count === 0 && !this.notices.isOffering;
   }
 
-  // Offers what an earlier page of this tab has kept.
-  #offerKept() {
-    for (const { key, words, text } of this.notices.kept()) this.notices.add({ view: this.views.get(key), words, text });
+  // Texts that are in no edit: what notices offer, drafts, and what jobs have to go.
+  get texts() {
+    const drafts = [...this.views.values()].flatMap(({ key, drafts }) => drafts.map((text) => [key, text]));
+    const rests = this.#jobs.filter(({ rest }) => rest.length > 0).map(({ view, rest }) => [view.key, rest.map(shownAs).join("")]);
+    return [...this.notices.offers, ...[...drafts, ...rests].map(([key, text]) => ({ key, words: UNSENT, text }))];
   }
 
-  // The tab is hidden, left, or shown again.
+  // The tab is hidden, or left, which hides it later. What the page brings in is brought in whole.
   #hide() {
+    if (this.link.hasLeft) return;
     for (const view of this.views.values()) view.hide();
+    this.keeping.now();
   }
 
   #leave() {
-    const words = "You typed this here, and it was not sent.";
-    this.notices.keep([...this.views.values()].flatMap(({ key, drafts }) => drafts.map((text) => ({ key, words, text }))));
+    const [job] = this.#jobs;
+    if (this.isJoining) {
+      this.run(job);
+      this.stop(job);
+    }
+    this.keeping.now();
     this.link.leave();
-  }
-
-  #comeBack() {
-    this.notices.keep();
-    this.lost();
-    this.link.comeBack();
   }
 
   // ---- What is shown ----
@@ -322,17 +368,29 @@ class Page {
   // Says in the head of the page how things are.
   #tell() {
     this.#status.tell({ ...this.#state, notices: this.notices.count });
+    this.keeping.soon();
   }
 
   get #state() {
     const left = this.#jobs.reduce((sum, job) => sum + job.left, 0);
-    const waiting = this.editCount - this.link.confirmed;
+    const { waiting } = this.untaken;
+    const edits = `${counted(waiting, "edit")} wait${waiting === 1 ? "s" : ""}`;
+    const isKept = this.link.isKept;
+    const sending = `${isKept ? "Saving" : "Sending"} \u2026`;
     if (this.#isWaiting) return { stage: "waiting", words: "64 people are here. You come in when one leaves" };
     if (!this.link.isOpen) return { stage: "lost", words: "Offline" };
+    if (!this.link.isCarried) return { stage: "offline", words: this.#wordsOffline(edits) };
+    if (this.isJoining) return { stage: "joining", words: `Bringing in ${counted(left, "character")} \u2026` };
     if (left > 0) return { stage: "sending", words: `${counted(left, "character")} to go` };
-    if (waiting > 0) return { stage: "sending", words: "Sending \u2026", slowly: `Sending \u2026 ${counted(waiting, "edit")} wait`, since: this.#untaken.oldest };
+    if (waiting > 0) return { stage: "sending", words: sending, slowly: `${sending} ${edits}`, since: this.untaken.oldest };
     if (this.isReadOnly) return { stage: "full", words: "Read only: the board is full" };
-    return this.drafts.count > 0 ? { stage: "draft", words: counted(this.drafts.count, "draft") } : { stage: "open", words: "Sent" };
+    return this.drafts.count > 0 ? { stage: "draft", words: counted(this.drafts.count, "draft") } : { stage: "open", words: isKept ? "Saved" : "Sent" };
+  }
+
+  #wordsOffline(edits) {
+    const { cutAt, grace } = this.link;
+    if (Date.now() - cutAt >= grace) return `Offline since ${cutAt.toTimeString().slice(0, 5)}. What you type is kept here and goes to the board later`;
+    return this.untaken.waiting > 0 ? `Offline. ${edits} ${this.keeping.isRefused ? "in this tab" : "on this device"}` : "Offline";
   }
 
   async #readCaptions() {
@@ -341,9 +399,9 @@ class Page {
   }
 
   async #countLinks() {
-    if (document.hidden || !this.link.isOpen) return;
+    if (document.hidden || !this.link.isCarried) return;
     const [count, state] = (await textAt("who"))?.split("\n") ?? [];
-    this.#status.count(this.link.isOpen ? Number.parseInt(count, 10) : 0);
+    this.#status.count(this.link.isCarried ? Number.parseInt(count, 10) : 0);
     if (state !== "full" || this.isReadOnly) return;
     this.#explain(reasonOf(FAULT.LogFull));
     this.#closeForGood();

@@ -18,14 +18,14 @@ export class Status {
   #sayAt = 0; // when the next can be said
   #sayer = null;
 
-  // Says how things are. `stage` is one of connecting, open, sending, draft, full, waiting and lost. `since` is when the oldest
+  // Says how things are. `stage` is one of connecting, open, sending, draft, joining, full, waiting, offline and lost. `since` is when the oldest
   // edit was made that waits, and `slowly` are the words if that is long ago. Notices come in place of good news.
   tell({ stage, words, notices, since = null, slowly = words }) {
     document.body.dataset.stage = stage;
     found("state").hidden = stage === "open" && notices > 0;
     found("notice-count").hidden = notices === 0;
     found("notice-count").textContent = counted(notices, "notice");
-    found("try-now").hidden = stage !== "lost" && stage !== "waiting";
+    found("try-now").hidden = !["lost", "waiting", "offline"].includes(stage);
     const isSame = since !== null && this.#now?.since === since;
     this.#now = { words, since, slowly };
     if (!isSame) this.#wait();

@@ -5,7 +5,7 @@
 // `mend` alone settles all other races: of moves, of deletions, and of settings.
 import { FAULT } from "./core.js";
 import { settingOf } from "./files.js";
-import { counted, placeOf, reasonOf } from "./texts.js";
+import { counted, grouped, reasonOf, shownAs } from "./texts.js";
 import { Undo } from "./undo.js";
 import { found } from "./view.js";
 
@@ -26,6 +26,7 @@ const UNITS = { ins: "item", del: "item", rel: "label", mov: "move" };
 class Playback {
   how = NO_STEP;
   rest = [];
+  isFirst = false; // whether it goes before other jobs
   #board;
   #does;
 
@@ -49,13 +50,13 @@ class Playback {
   }
 
   made(ops) {
-    if (ops.length > 0) this.#does.made(this.plan, ops);
+    if (ops.length > 0) this.#does.made(ops);
   }
 
   show() {}
 
   end() {
-    this.#does.ended(this);
+    this.#does.ended();
   }
 }
 
@@ -65,6 +66,7 @@ export class TakingBack {
   #undo = new Undo();
   #made = null; // the last edit of this page, as its site told it
   #job = null; // the undo or redo that goes on
+  #joining = null; // the undo whose edits are brought in
   #nothing = NOTHING.undo;
 
   constructor(page) {
@@ -96,7 +98,12 @@ export class TakingBack {
   }
 
   came(it) {
-    this.#undo.came(it);
+    for (const undo of new Set([this.#undo, this.#joining ?? this.#undo])) undo.came(it);
+  }
+
+  // The last edit of this page as `applyAll` returned it.
+  get took() {
+    return this.#made.took;
   }
 
   nameOf(view, name) {
@@ -105,29 +112,56 @@ export class TakingBack {
 
   // Puts right what races have left, as far as edits can be made now.
   mend() {
-    const plan = this.#page.isReady && this.#undo.mend();
+    const plan = this.#page.isReady && !this.#job?.isFirst && this.#undo.mend();
     if (!plan) return;
     while (!plan.isDone) {
       const commands = plan.next(this.#page.board);
       const ops = commands.length > 0 ? this.#page.edit(this.#viewOf(commands[0]), commands, NO_STEP) : [];
       if (ops === null) return;
-      if (ops.length > 0) plan.made(this.#made);
-      for (const view of this.#viewsOf(ops).keys()) {
-        view.isStale = true;
-        view.follow();
-      }
+      if (ops.length > 0) this.#mended(plan, ops);
     }
     this.#page.drawSoon();
   }
 
-  // The page has joined, and had another board before. `isSame` is whether that was of the same run of the server.
-  joined(old, isSame) {
-    if (isSame) this.#undo.rejoin(old, this.#page.board);
-    else {
+  #mended(plan, ops) {
+    plan.made(this.#made);
+    for (const view of this.#viewsOf(ops).keys()) {
+      view.isStale = true;
+      view.follow();
+    }
+  }
+
+  // The page has joined, and had another board before. `isSame` is whether that was of the same run of the server. If so, it had `taken` so
+  // many edits, and the others are made again.
+  joined(old, isSame, taken) {
+    if (isSame) {
+      this.#undo.rejoin(old, this.#page.board, taken);
+      this.bringIn(this.#undo, NO_STEP);
+    } else {
       if (this.#undo.canUndo || this.#undo.canRedo) this.#nothing = RESTARTED;
       this.#undo = new Undo();
     }
     this.tell();
+  }
+
+  // Whether something can be brought in now.
+  get isIdle() {
+    return this.#job === null && this.#page.isReady;
+  }
+
+  // Makes again what is torn of an undo: that of this page, or one of an earlier page, whose edits are a step then. `ended` is called with
+  // whether all of it is made.
+  bringIn(undo, how, ended = () => {}) {
+    const plan = undo.mend();
+    const { board } = this.#page;
+    const end = () => {
+      this.#broughtIn(board);
+      ended(plan === null || plan.isDone);
+    };
+    if (plan === null) return end();
+    this.#joining = undo;
+    const job = this.#jobOf("mend", plan, (ops) => this.#mended(plan, ops), () => (plan.isFull ? this.#giveUp(undo, how, ended) : end()));
+    return this.#start(Object.assign(job, { how, isFirst: true }));
   }
 
   // The link is lost. What an undo has not done yet stays to be done.
@@ -175,10 +209,14 @@ export class TakingBack {
   }
 
   #play(way, plan) {
-    const job = new Playback(way, plan, this.#page.views.get(plan.key), this.#page.board, {
-      made: (it, ops) => this.#playbackMade(it, ops),
-      ended: (it) => this.#ended(it),
-    });
+    this.#start(this.#jobOf(way, plan, (ops) => this.#playbackMade(plan, ops), () => this.#ended(way, plan)));
+  }
+
+  #jobOf(way, plan, made, ended) {
+    return new Playback(way, plan, this.#page.views.get(plan.key), this.#page.board, { made, ended });
+  }
+
+  #start(job) {
     this.#job = job;
     if (!this.#page.isShort(job)) this.#page.begin(job);
     else {
@@ -193,7 +231,26 @@ export class TakingBack {
     for (const [view, some] of this.#viewsOf(ops)) view.tookBack(some);
   }
 
-  #ended({ way, plan }) {
+  // What has no room is offered, and the rest is brought in.
+  #giveUp(undo, how, ended) {
+    this.#job = null;
+    for (const [key, some] of undo.giveUp(this.#page.board)) {
+      const view = this.#page.views.get(key);
+      const text = view.widget.kind === "text" ? some.map(([, value]) => shownAs(value)).join("") : some.map(([, label]) => label).join("\n");
+      this.#page.notices.add({ view, words: reasonOf(FAULT.LongText), text });
+    }
+    this.bringIn(undo, how, ended);
+  }
+
+  // What was done without a link is there again, or refused. The page goes on, unless it has another board by now.
+  #broughtIn(board) {
+    this.#job = this.#joining = null;
+    if (board === this.#page.board) for (const view of this.#page.views.values()) view.goOn();
+    this.#page.drawSoon();
+    this.tell();
+  }
+
+  #ended(way, plan) {
     this.#job = null;
     const ending = plan.finish();
     const { key, after } = ending.place ?? { key: plan.key };
@@ -212,7 +269,7 @@ export class TakingBack {
 
   #sentence(way, { did, skipped, isFull }) {
     if (did.length === 0) return isFull ? reasonOf(FAULT.LongText) : skipped > 0 ? OTHERS : "";
-    const phrases = Array.from(Map.groupBy(did, ({ key }) => key), ([key, some]) => this.#phrase(this.#page.views.get(key), some));
+    const phrases = Array.from(grouped(did, ({ key }) => key), ([key, some]) => this.#phrase(this.#page.views.get(key), some));
     const words = `${DONE[way]}: ${phrases.join(", ")}`;
     return isFull ? `${words}. ${NO_ROOM}` : words;
   }
@@ -220,7 +277,7 @@ export class TakingBack {
   #phrase({ widget, name }, did) {
     const caption = name.textContent;
     if (did[0].kind === "set") return `${caption}, now ${settingOf(widget)}`;
-    const counts = Map.groupBy(did, ({ kind }) => (widget.kind === "text" ? "character" : UNITS[kind]));
+    const counts = grouped(did, ({ kind }) => (widget.kind === "text" ? "character" : UNITS[kind]));
     const sum = (some) => some.reduce((total, { count }) => total + count, 0);
     return `${Array.from(counts, ([unit, some]) => counted(sum(some), unit)).join(" and ")} in ${caption}`;
   }
@@ -233,6 +290,6 @@ export class TakingBack {
 
   // The operations, by their views.
   #viewsOf(ops) {
-    return Map.groupBy(ops, (op) => this.#viewOf(op));
+    return grouped(ops, (op) => this.#viewOf(op));
   }
 }

@@ -85,9 +85,14 @@ export class TextView extends View {
     return DRAGS.includes(inputType) ? this.page.takingBack.drag : HOW[inputType];
   }
 
-  // The user changed the area as a browser does it.
+  goOn() {
+    if (!this.isHeld) this.#typed();
+  }
+
+  // The user changed the area as a browser does it. What is typed while the page joins is made an edit after it.
   #typed(how) {
     this.#sizeAgain();
+    if (this.page.isJoining) return;
     const { value, selectionEnd } = this.area;
     const { head, tail } = difference(this.shown, value, selectionEnd);
     if (value !== this.shown) this.#replace(head, this.shown.length - tail, value.slice(head, value.length - tail), how);
@@ -95,7 +100,7 @@ export class TextView extends View {
 
   #pasted(event) {
     const text = event.clipboardData.getData("text/plain").replace(/\r\n?/g, "\n");
-    if (text.length <= LONG_PASTE || this.area.readOnly) return;
+    if (text.length <= LONG_PASTE || this.area.readOnly || this.page.isJoining) return;
     event.preventDefault();
     this.#replace(this.area.selectionStart, this.area.selectionEnd, text);
   }
@@ -224,7 +229,7 @@ export class TextView extends View {
   #after(place) {
     const { items, names } = this.widget;
     for (let at = place - 1; at >= 0; at--) {
-      const { name } = this.items[at];
+      const name = this.nameOf(this.items[at].name);
       if (names.has(name)) return placeOf(items, name, at) + 1;
     }
     return 0;
@@ -239,7 +244,7 @@ export class TextView extends View {
   #anchor(place) {
     const { items, names } = this.widget;
     for (let at = place; at < this.items.length; at++) {
-      const { name } = this.items[at];
+      const name = this.nameOf(this.items[at].name);
       if (names.has(name)) return [at, placeOf(items, name, at)];
     }
     return [this.items.length, items.length];

@@ -1,6 +1,20 @@
 // Texts: as a text area shows them, what has changed in one, and what the page says. Nothing here needs a page.
 import { FAULT, isScalar } from "./core.js";
 
+// The key of the widget that something is about.
+export const keyOf = ({ win, wid }) => `${win}.${wid}`;
+
+// Things by their keys.
+export function grouped(things, keyOf) {
+  const groups = new Map();
+  for (const it of things) {
+    const key = keyOf(it);
+    if (!groups.has(key)) groups.set(key, []);
+    groups.get(key).push(it);
+  }
+  return groups;
+}
+
 // What a text area shows for a character. It would make a line feed of a carriage return, so that is shown by its picture.
 export const shownAs = (value) => (value === 13 ? "\u240d" : value === 0 ? "\u2400" : String.fromCodePoint(value));
 

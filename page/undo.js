@@ -11,7 +11,7 @@
 //
 // `took` is what `applyAll` of a board returns: operations as they were applied, and what each of them found.
 import { MOST_ITEMS, MOST_OPERATIONS, MOST_WAITING } from "./core.js";
-import { placeOf } from "./texts.js";
+import { grouped, keyOf, placeOf } from "./texts.js";
 
 const MOST_STEPS = 1000;
 const MOST_RECORDS = 131072;
@@ -24,7 +24,6 @@ const FEWEST_NAMES = 4096;
 // One who moves an item may not know its newest labels. So many count, and the present one.
 const MOST_LABELS = 8;
 
-const keyOf = ({ win, wid }) => `${win}.${wid}`;
 const idOf = (at, name = at.name) => (name === undefined ? keyOf(at) : `${keyOf(at)} ${name}`);
 // What a record of a value or of a place leads from, and to.
 const sidesOf = ({ before, after }, way) => (way === "undo" ? [after, before] : [before, after]);
@@ -46,8 +45,11 @@ class Thing {
   by = null;
   // Changes of its value that the server may not have taken, in order.
   open = NONE;
-  // The last edit of this site about it.
+  // The last edit of this site about it, and the one in which its item got its name, if it was one of this site.
   nth = -1;
+  born = -1;
+  // The name under which it has to come to another place, if that is to be done again.
+  goal = null;
   // What it is now, if it is another of an item that others moved.
   heir = this;
   // Those that an item of a list had lately.
@@ -149,6 +151,7 @@ export class Undo {
     const { op, value } = it;
     const thing = this.#thingOf(op, op.verb === "ins" ? op.value : value);
     thing.nth = nth;
+    if (op.verb === "ins") thing.born = nth;
     if (op.verb === "rel" || op.verb === "set") return this.#recordValue(step, thing, it, nth);
     const record = this.#add(step, { kind: op.verb, thing, version: thing.now.version });
     if (op.verb === "del") this.#takeAway(thing, it, { record, way: "user" });
@@ -171,7 +174,7 @@ export class Undo {
     const before = { name: op.name, version: thing.where };
     this.#gone.set(idOf(op), left);
     this.#rename(thing, to.op.name);
-    Object.assign(thing, { where: this.#newVersion(), nth });
+    Object.assign(thing, { where: this.#newVersion(), nth, born: nth });
     this.#add(step, { kind: "mov", thing, before, after: { name: thing.name, version: thing.where } });
   }
 
@@ -205,7 +208,7 @@ export class Undo {
   #bringBack(thing, { op }) {
     this.#gone.set(idOf(thing), op.name);
     this.#rename(thing, op.name);
-    thing.isAway = false;
+    Object.assign(thing, { isAway: false, born: thing.nth });
   }
 
   // The server may not have taken a change of a value. That can be so of MOST_WAITING edits.
@@ -288,8 +291,9 @@ export class Undo {
     }
   }
 
-  // The page has joined the same run as a new site. What happened meanwhile shows only in the two boards.
-  rejoin(old, now) {
+  // The page has joined the same run as a new site, and the server had `taken` so many edits of the old one. What happened meanwhile shows
+  // only in the two boards. What was not taken is torn, unless others have changed the same: `mend` makes it again.
+  rejoin(old, now, taken = Infinity) {
     this.#torn.clear();
     this.end();
     this.#nth = -1;
@@ -301,16 +305,31 @@ export class Undo {
     }
     // An item has the name that it had before a move that was not taken.
     for (const [id, thing] of this.#things) {
+      const { names } = now.widget(thing.win, thing.wid);
       const [, name] = id.split(" ");
-      if (now.widget(thing.win, thing.wid).names?.has(name)) thing.name = name;
+      if (names?.has(thing.name) || !names?.has(name)) continue;
+      if (thing.nth >= taken && thing.kind === "list" && !thing.isAway) thing.goal ??= thing.name;
+      thing.name = name;
     }
     const draft = new Draft(now, 0);
-    for (const thing of new Set(this.#things.values())) {
-      const found = draft.valueOf(thing);
-      const isAway = found === undefined;
-      Object.assign(thing, { open: NONE, by: null, nth: -1, isAway, isLost: isAway && (thing.isLost || !thing.isAway) });
-      if (!isAway && found !== thing.now.value) thing.become({ value: found, version: this.#newVersion() });
-    }
+    for (const thing of new Set(this.#things.values())) this.#rejoinThing(thing, draft.valueOf(thing), taken);
+  }
+
+  // Until what is torn is made again, it counts as not taken.
+  #rejoinThing(thing, found, taken) {
+    const change = thing.open.find(({ nth }) => nth >= taken);
+    const isHere = found !== undefined;
+    const isSame = found === thing.now.value;
+    const isAsBefore = change ? found === sidesOf(change.record, change.way)[0].value : isSame;
+    const comes = !isHere && !thing.isAway && thing.born >= taken;
+    const goes = isHere && thing.isAway && thing.nth >= taken && isAsBefore;
+    const changes = isHere && !thing.isAway && !isSame && isAsBefore;
+    const isTorn = comes || goes || changes || thing.goal !== null;
+    const isAway = goes || !(isHere || comes);
+    if (isHere && !(isSame || goes || changes)) thing.become({ value: found, version: this.#newVersion() });
+    Object.assign(thing, { isLost: isAway && !goes && (thing.isLost || !thing.isAway), isAway, by: null });
+    Object.assign(thing, { open: isTorn && change ? [{ ...change, nth: Infinity }] : NONE, nth: isTorn ? Infinity : -1, born: comes ? Infinity : -1 });
+    if (isTorn) this.#torn.add(thing);
   }
 
   // ---- Undo and redo ----
@@ -398,28 +417,55 @@ export class Undo {
   // A plan that puts right what races have left, or null if there is nothing to do. It has to be asked for after each edit of others.
   mend() {
     if (this.#torn.size === 0) return null;
-    return new Plan(Array.from(this.#torn, (thing) => ({ kind: "fix", thing })), {
+    return new Plan(Array.from(this.#torn, (thing) => ({ kind: thing.goal === null ? "fix" : "mov", thing })), {
       put: ({ thing }, draft) => this.#fix(thing, draft),
-      made: ({ thing }, [it], nth) => this.#fixed(thing, it, nth),
+      made: ({ thing }, took, nth) => this.#fixed(thing, took, nth),
       end: () => {},
     });
+  }
+
+  // What is to be made again, by the keys of the widgets.
+  get torn() {
+    return grouped(this.#torn, keyOf);
+  }
+
+  // Gives up what is to come to widgets of a board that are full. Returns the values, by the keys of the widgets.
+  giveUp(board) {
+    const left = [...this.#torn].filter(({ win, wid, isAway }) => !isAway && board.widget(win, wid).items?.length >= MOST_ITEMS);
+    for (const thing of left) {
+      Object.assign(thing, { isAway: true, isLost: true });
+      this.#torn.delete(thing);
+    }
+    return grouped(left.map((thing) => [keyOf(thing), thing.now.value]), ([key]) => key);
   }
 
   // Puts on a draft what makes the board show what a thing has to be.
   #fix(thing, draft) {
     const found = draft.valueOf(thing);
-    if (found === undefined && !thing.isAway) return this.#insert(thing, thing.name, draft);
+    if (found === undefined && !thing.isAway) return this.#insert(thing, thing.goal ?? thing.name, draft);
     if (found !== undefined && thing.isAway) draft.delete(thing);
-    else if (found !== undefined && found !== thing.now.value) draft.change(thing, thing.now.value);
+    else if (thing.goal !== null) {
+      if (draft.roomFor(thing) < 0) return false;
+      draft.delete(thing);
+      return this.#insert(thing, thing.goal, draft);
+    } else if (found !== undefined && found !== thing.now.value) draft.change(thing, thing.now.value);
     else this.#torn.delete(thing);
     return true;
   }
 
-  #fixed(thing, it, nth) {
+  #fixed(thing, took, nth) {
     this.#nth = thing.nth = nth;
     this.#torn.delete(thing);
-    if (it.op.verb === "ins") this.#bringBack(thing, it);
-    if (it.op.verb === "del") this.#gone.set(idOf(thing), it.left);
+    for (const it of thing.open) if (it.nth === Infinity) it.nth = nth;
+    for (const it of took) {
+      // Of what is deleted again, the neighbour of the first time counts.
+      if (it.op.verb === "del" && !this.#gone.has(idOf(thing))) this.#gone.set(idOf(thing), it.left);
+      if (it.op.verb !== "ins") continue;
+      if (thing.goal !== null) this.#gone.set(idOf(thing, thing.goal), it.op.name);
+      if (took.length === 1) this.#bringBack(thing, it);
+      else this.#rename(thing, it.op.name);
+      Object.assign(thing, { goal: null, born: nth });
+    }
   }
 
   // Forgets the names that no step can lead to, and no race.

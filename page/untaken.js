@@ -18,7 +18,7 @@ export class Untaken {
     this.#page = page;
   }
 
-  // An edit with its operations, its `view`, the `job` that made it, and `after`, what the insertions of that job then came after.
+  // An edit with its operations, its `view`, its `took` as `applyAll` returned it, the `job` that made it, and `after`, what the insertions of that job then came after.
   add(edit) {
     this.#edits.push({ ...edit, number: this.#page.editCount, made: performance.now(), at: null });
     edit.view.awaits(1);
@@ -29,6 +29,35 @@ export class Untaken {
     return this.#edits.find(({ at }) => at === null)?.made ?? null;
   }
 
+  // How many edits are not confirmed.
+  get waiting() {
+    return this.#unconfirmed.length;
+  }
+
+  get #unconfirmed() {
+    return this.#edits.filter(({ at }) => at === null);
+  }
+
+  // What a later page could make: edits that are not confirmed, when the `oldest` was made, and the site that made them.
+  get kept() {
+    const { old, edits } = this.#lost ?? { old: this.#page.link.site, edits: this.#edits };
+    const left = edits.filter(({ at }) => at === null);
+    return { site: old, edits: left, oldest: left[0]?.made };
+  }
+
+  // How many edits of a site the server took before its link ended, as a later board of the same run shows.
+  taken(old, board) {
+    const edits = this.#unconfirmed;
+    const left = missing(edits.map(({ ops }) => ops), old.site, board).length;
+    return edits[edits.length - left - 1]?.number ?? (edits[0]?.number ?? old.made + 1) - 1;
+  }
+
+  // What is not confirmed is made again.
+  forget() {
+    for (const { view } of this.#unconfirmed) view.awaits(-1);
+    this.#edits = [];
+  }
+
   // Whether edits of a link that is lost wait for the next board.
   get isPending() {
     return this.#lost !== null;
@@ -37,7 +66,7 @@ export class Untaken {
   // The server has taken so many edits for certain.
   confirmed(count) {
     const now = performance.now();
-    for (const edit of this.#edits.filter(({ number, at }) => at === null && number <= count)) {
+    for (const edit of this.#unconfirmed.filter(({ number }) => number <= count)) {
       edit.at = now;
       edit.view.awaits(-1);
     }

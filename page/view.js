@@ -111,6 +111,14 @@ export class View {
 
   forgetNames() {}
 
+  // The name that an item has now: the page may have made it again.
+  nameOf(name) {
+    return this.page.nameOf(this, name);
+  }
+
+  // The page brings nothing in any more.
+  goOn() {}
+
   // An edit of others came with an operation, as the server sent it, when it had `heard` edits of this page.
   came() {}
 
@@ -172,7 +180,7 @@ export class View {
   }
 
   update() {
-    if (!this.isStale || this.isHeld) return;
+    if (!this.isStale || this.isHeld || this.page.isJoining) return;
     this.isStale = false;
     this.draw();
     if (this.isChanged && !prefersCalm.matches) this.mark.animate([{ opacity: 1 }, { opacity: 0 }], GLOW);

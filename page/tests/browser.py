@@ -78,7 +78,8 @@ class Target:
 
     def __init__(self, url):
         self.socket, self.count, self.answers, self.events, self.news = WebSocket(url), 0, {}, [], threading.Condition()
-        threading.Thread(target=self.hear, daemon=True).start()
+        self.hearing = threading.Thread(target=self.hear, daemon=True)
+        self.hearing.start()
 
     def hear(self):
         with contextlib.suppress(OSError, ValueError):
@@ -151,6 +152,13 @@ class Tab(Target):
 
     def open(self, url):
         self.call("Page.navigate", url=url)
+
+    def close(self):
+        """Closes the tab, if it is not closed yet."""
+        if self.hearing.is_alive():
+            with self.news, contextlib.suppress(OSError):
+                self.send("Page.close")
+        self.hearing.join(PATIENCE)
 
     def reload(self):
         """Loads the page again. What was set in its window is gone."""
@@ -236,7 +244,7 @@ class Browser:
         with urllib.request.urlopen(request, timeout=PATIENCE) as answer:
             return json.loads(answer.read())
 
-    def tab(self):
+    def tab(self, **where):
         """A new tab, in a window of its own."""
-        target = self.whole.call("Target.createTarget", url="about:blank", newWindow=True)["targetId"]
+        target = self.whole.call("Target.createTarget", url="about:blank", newWindow=True, **where)["targetId"]
         return Tab(next(it for it in self.ask("list") if it["id"] == target)["webSocketDebuggerUrl"])

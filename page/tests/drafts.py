@@ -2,7 +2,7 @@
 import time
 
 from browser import SHIFT, Late
-from stage import (ADD, ADD_HINT, COUNTED, FIELDS, GHOST, LABELS, NOTICES, OFFERED, PLUS, ROWS, STATE, WORDS, button, expect, expect_that, hint, leave, paste, put, retype, row, select_all, together)
+from stage import (ADD, ADD_HINT, COUNTED, FIELDS, GHOST, LABELS, NOTICES, OFFERED, PLUS, ROWS, STATE, WORDS, are_kept, button, expect, expect_that, hint, leave, paste, put, retype, row, select_all, together)
 
 ITEMS = ["bread", "milk", "eggs", "tea", "salt", "rice", "beans", "honey"]
 BOARD = "window 1\ntext 1 \"Hi\"\nlist 2 " + " ".join(f'"{it}"' for it in ITEMS) + "\ntext 3 \"\"\n"
@@ -415,23 +415,20 @@ def keys_after_a_deletion(stage):
     stage.a.press("Tab", SHIFT)
 
 
-def asks_before_it_is_left(stage):
-    """A page with a draft asks whether to leave it. If it is left anyway, what was typed is offered on the next visit of the tab."""
+def left_with_a_draft(stage):
+    """The browser keeps a draft, so a page with one is left without a question. What was typed is offered on the next visit."""
     tab = stage.a
-    for count, (element, typed) in enumerate([(field("milk"), "cream"), (ADD, "K\u00e4se")], 1):
+    for element, typed in ((field("milk"), "cream"), (ADD, "K\u00e4se")):
         tab.click(element)
         select_all(tab)
         put(tab, typed)
+        are_kept(tab, 1)
         tab.reload()
-        expect(tab.asked(), count, "how many times the page asked")
-        tab.until(f"{STATE} === 'open'")
+        tab.until(f"{OFFERED}.length > 0")
         expect_that(any(typed in it for it in tab.run(OFFERED)), f"what was typed is offered: {tab.run(OFFERED)}")
         tab.click(button("Dismiss", f"{NOTICES}[0]"))
         expect(tab.run(f"[{NOTICES}.length, {LABELS}]"), [0, ITEMS], "the notices, and the list")
-    tab.click(ADD)
-    tab.reload()
-    expect(tab.asked(), 2, "how many times the page asked, the last time without a draft")
-    tab.until(f"{STATE} === 'open'")
+    expect(tab.asked(), 0, "how many times the page asked")
 
 
 PARTS = {
@@ -457,5 +454,5 @@ PARTS = {
     "rows that moved under the pointer": rows_that_moved,
     "rows that moved, and a press on +": rows_that_moved_below_plus,
     "keys after a deletion": keys_after_a_deletion,
-    "a page with a draft asks before it is left": asks_before_it_is_left,
+    "a page is left with a draft": left_with_a_draft,
 }

@@ -93,10 +93,12 @@ def cut_and_paste(stage):
 def a_long_paste(stage):
     words = "\r\n".join(f"word {it} and more" for it in range(200))
     focus(stage.a, 2)
+    stage.a.run(f"new MutationObserver(() => {AREA}.readOnly || (window.cursorThen = {AREA}.selectionStart)).observe({AREA}, {{ attributeFilter: ['readonly'] }})")
     together(lambda: stage.a.run(pasted(words)), lambda: stage.b.type("meanwhile"))
     text = stage.agreed()[0]
     expect_that(words.replace("\r\n", "\n") in text and text.endswith("!?meanwhile"), "both are whole")
-    expect(stage.a.run(f"{AREA}.selectionStart"), 2 + len(words.replace("\r\n", "\n")), "the cursor after a paste")
+    after = 2 + len(words.replace("\r\n", "\n"))
+    expect(stage.a.run(f"[{AREA}.selectionStart, cursorThen]"), [after, after], "the cursor after a paste, and at the moment from which on one can type")
 
 
 def pasted(text, area=AREA):

@@ -1,8 +1,17 @@
 #!/usr/bin/env node
-// jup.js HOST:PORT: a client with the page's core that reads the commands of `jup` (docs/PROGRAMS.md), so that the conformance kit can judge it.
+// jup.js [--protocol 4] HOST:PORT: a client with the page's core and its link that reads the commands of `jup` (docs/PROGRAMS.md), so that
+// the conformance kit can judge them. Its waits between two tries are a quarter of those of the page, so that the kit need not wait so long.
 import net from "node:net";
 import readline from "node:readline";
-import { Fault, Lines, Site, isLabel } from "../core.js";
+import { Fault, Site, isLabel } from "../core.js";
+import { Lasting } from "../lasting.js";
+
+const WAITS = [125, 250, 500, 1000, 1250];
+// How many tries it makes without ever having had a link. In milliseconds, how often it looks at the clock, and how long it waits for the
+// server to end a connection.
+const MOST = 3;
+const BEAT = 500;
+const LAST = 2000;
 
 const NUMBER = "(0|[1-9]\\d*)";
 const EDIT = new RegExp(`^(ins|del|rel|set) ${NUMBER} ${NUMBER} (.*)$`);
@@ -73,27 +82,50 @@ function editWords({ verb, win, wid, kind, name, value }) {
   return words.join(" ");
 }
 
+// What opens connections for a link.
+const connector = (address) => ({ opened, came, closed }) => {
+  const [host, port] = address.split(/:(?=\d+$)/);
+  const socket = net.connect(Number(port), host).setNoDelay(true);
+  socket.on("connect", opened).on("data", (data) => came(data.toString("latin1"))).on("close", closed).on("error", () => {});
+  return {
+    send: (text) => socket.write(text),
+    end: () => setTimeout(() => socket.destroy(), LAST, socket.end()).unref(),
+    get unsent() {
+      return socket.writableLength;
+    },
+  };
+};
+
 class Client {
-  lines = new Lines();
+  site = null;
   commands = [];
   coming = []; // lines of the server, which are taken only while a command waits
   isClosed = false; // whether no more commands come
   isBusy = true; // whether the next command has to wait: before the site is open, and within a sync
-  hasEnded = false; // whether the server has ended the link
+  ended = null; // how the link ended
+  hasLeft = false;
   isOver = false;
   awaited = 0;
 
-  constructor(address) {
-    const [host, port] = address.split(/:(?=\d+$)/);
-    this.socket = net.connect(Number(port), host).setNoDelay(true);
-    this.site = new Site((text) => this.socket.write(text), (what, number) => this.told(what, number));
-    this.socket.on("connect", () => this.site.greet());
-    this.socket.on("data", (data) => this.comes(() => this.coming.push(...this.lines.take(data.toString("latin1")))));
-    this.socket.on("end", () => this.comes(() => (this.hasEnded = true)));
-    this.socket.on("error", () => this.isOver || this.end(1));
+  constructor(address, version) {
+    const does = {
+      begins: () => this.begins(),
+      hears: (lines) => this.comes(() => this.coming.push(...lines)),
+      carried: () => {},
+      cut: () => {},
+      over: (ended) => this.comes(() => (this.ended = ended)),
+    };
+    this.link = new Lasting(connector(address), does, { version, waits: WAITS, most: MOST });
+    setInterval(() => this.link.tend(), BEAT).unref();
+    this.link.open();
     this.typed = readline.createInterface({ input: process.stdin, crlfDelay: 0, terminal: false });
     this.typed.on("line", (line) => this.types(() => this.commands.push(line)));
     this.typed.on("close", () => this.types(() => (this.isClosed = true)));
+  }
+
+  begins() {
+    this.coming = [];
+    this.site = new Site((text) => this.link.put(text), (what, number) => this.told(what, number));
   }
 
   comes(step) {
@@ -117,11 +149,18 @@ class Client {
   take() {
     try {
       while (this.isBusy && !this.isOver && this.coming.length > 0) this.site.hear(this.coming.shift());
-      if (this.isBusy && this.hasEnded) this.ends(43);
+      if (this.isBusy && this.ended !== null) this.finds(this.ended);
     } catch (fault) {
       if (!(fault instanceof Fault)) throw fault;
       this.ends(fault.number);
     }
+  }
+
+  // The link has ended, and all that came was heard.
+  finds({ fault, lost }) {
+    if (this.hasLeft) this.end(lost === 0 ? 0 : 4);
+    else if (this.site === null && fault === null) this.end(1);
+    else this.ends(fault ?? 43);
   }
 
   // Does commands until one has to wait for the server.
@@ -161,9 +200,11 @@ class Client {
 
   quit() {
     this.isBusy = true;
+    this.hasLeft = true;
     this.site.bye();
     say("bye");
-    this.end(0);
+    if (this.link.version === 3) this.end(0);
+    else this.take();
   }
 
   ends(number) {
@@ -175,10 +216,12 @@ class Client {
   end(status) {
     this.isOver = true;
     process.exitCode = status;
-    this.socket.end();
+    this.link.close();
     this.typed.close();
     process.stdin.destroy();
   }
 }
 
-new Client(process.argv[2]);
+const words = process.argv.slice(2);
+const version = words[0] === "--protocol" ? Number(words.splice(0, 2)[1]) : 3;
+new Client(words[0], version);

@@ -1,7 +1,11 @@
-"""A proxy that holds back what goes over a TCP link: each piece for a while each way, or all of it until it is let go."""
+"""A proxy that holds back what goes over a TCP link: each piece for a while each way, or all of it until it is let go. It also breaks links."""
 import asyncio
 import contextlib
 import threading
+import time
+
+# How many bytes of a slow way are carried at a time.
+PIECE = 512
 
 
 class Lag:
@@ -9,8 +13,10 @@ class Lag:
 
     def __init__(self, port, target, seconds):
         self.port, self.target, self.seconds = port, target, seconds
-        # Which way is held: "up" to the server, "down" from it.
-        self.held, self.links = set(), set()
+        # Which way is held: "up" to the server, "down" from it. How many bytes a second a way takes, if it is slow.
+        self.held, self.rates, self.links = set(), {}, set()
+        # Whether new links are closed immediately, when each link came, and after how many bytes more of a way all links are cut.
+        self.is_shut, self.came, self.left = False, [], {}
         self.loop = asyncio.new_event_loop()
         is_up = threading.Event()
         threading.Thread(target=self.serve, args=(is_up,), daemon=True).start()
@@ -23,7 +29,10 @@ class Lag:
         self.loop.run_forever()
 
     async def link(self, reader, writer):
+        self.came.append(time.monotonic())
         try:
+            if self.is_shut:
+                raise ConnectionRefusedError
             inner, outer = await asyncio.open_connection("127.0.0.1", self.target)
         except OSError:
             writer.close()
@@ -37,8 +46,10 @@ class Lag:
         waiting = asyncio.Queue()
         sending = asyncio.create_task(self.send(waiting, writer, way))
         with contextlib.suppress(OSError):
-            while data := await reader.read(65536):
+            while data := await reader.read(PIECE if way in self.rates else 65536):
                 waiting.put_nowait((self.loop.time() + self.seconds, data))
+                if way in self.rates:
+                    await asyncio.sleep(len(data) / self.rates[way])
         waiting.put_nowait((self.loop.time() + self.seconds, b""))
         await sending
 
@@ -51,11 +62,40 @@ class Lag:
                     await asyncio.sleep(0.01)
                 if not data:
                     break
-                writer.write(data)
+                writer.write(self.cuts(way, data))
                 await writer.drain()
+                if self.left.get(way) == 0:
+                    self.abort()
         writer.close()
+
+    def cuts(self, way, data):
+        """What of a piece is carried before the links are cut."""
+        if way in self.left:
+            data = data[: self.left[way]]
+            self.left[way] -= len(data)
+        return data
+
+    def abort(self):
+        self.left = {}
+        for it in self.links:
+            # What is written has to come before the end.
+            it.close() if it.transport.get_write_buffer_size() == 0 else it.transport.abort()
 
     def cut(self):
         """Ends all links, and drops what is held."""
         self.loop.call_soon_threadsafe(lambda: [it.transport.abort() for it in self.links])
         self.held = set()
+
+    def cut_after(self, way, count):
+        """Ends all links once so many bytes more have gone a way."""
+        self.left = {way: count}
+
+    @contextlib.contextmanager
+    def tunnel(self):
+        """There is no link in it, and none can be made."""
+        self.is_shut = True
+        self.cut()
+        try:
+            yield
+        finally:
+            self.is_shut = False

@@ -1,7 +1,7 @@
 """A link that is lost, a server that starts again, and a board that takes no more edits."""
 import time
 
-from stage import ADD, AREA, COUNTED, NOTICES, OFFERED, STATE, WORDS, button, copied, expect, expect_that, focus
+from stage import ADD, AREA, COUNTED, IS_OFFLINE, NOTICES, OFFERED, STATE, WORDS, button, copied, expect, expect_that, focus
 
 # All that the notices at a widget say and offer, and the widgets of a text and of a list.
 SAID = "[...%s.closest('.widget').querySelectorAll('.notice')].map((it) => [it.textContent, ...[...it.querySelectorAll('textarea')].map((area) => area.value)].join('\\n')).join('\\n')"
@@ -24,9 +24,9 @@ def a_server_that_stops(stage):
     focus(stage.a, 3, 8)
     stage.server.stop()
     for it in stage.tabs:
-        it.until(f"{STATE} === 'lost'")
+        it.until(IS_OFFLINE)
         expect(it.run(WORDS), "Offline", "what the page says")
-        expect_that(it.run(f"{AREA}.readOnly"), "a text cannot be edited")
+        expect(it.run(f"{AREA}.readOnly"), not stage.lasts, "whether a text cannot be edited")
     stage.picture(stage.a, "lost")
     expect_that('text 1 "Hi there"' in stage.server.kept(), "the board is kept")
     stage.server.start()
@@ -47,7 +47,7 @@ def a_killed_server(stage):
     stage.b.until(f"{WORDS} === 'Sending \u2026 9 edits wait'")
     stage.server.kill()
     stage.lag.cut()
-    stage.b.until(f"{STATE} === 'lost'")
+    stage.b.until(IS_OFFLINE)
     expect(stage.b.run(f"{AREA}.value"), "Hi you and more", "what is still shown")
     stage.server.start()
     stage.b.until(f"{STATE} === 'open'")
@@ -62,7 +62,7 @@ def a_killed_server(stage):
 
 
 def a_lost_link(stage):
-    """A link is cut after the server took an edit, and before it took the next. Only the next is offered."""
+    """A link is cut after the server took an edit, and before it took the next. In protocol 3 the next is offered, and no other. In protocol 4 both are on the board."""
     stage.lag.held = {"down"}
     focus(stage.b)
     stage.b.type(" taken")
@@ -74,8 +74,12 @@ def a_lost_link(stage):
     stage.b.type("lost ")
     stage.b.press("ArrowRight")
     stage.lag.cut()
-    stage.b.until(f"{STATE} === 'lost'")
+    stage.b.until(IS_OFFLINE)
     stage.b.until(f"{STATE} === 'open'")
+    if stage.lasts:
+        stage.agrees_on("lost Hi you taken", ["buy bread", "call Ann", "late"])
+        expect([stage.b.run(COUNTED), cursor(stage.b)], ["", [True, 6, 6]], "the notices in the head, focus and cursor")
+        return
     stage.agrees_on("Hi you taken", ["buy bread", "call Ann"])
     of_text, of_list = stage.b.run(OF_TEXT), stage.b.run(OF_LIST)
     expect_that("lost " in of_text and "taken" not in of_text, f"what was not taken is offered at the text, and no more: {of_text!r}")

@@ -58,7 +58,7 @@ test("counts are words", () => {
   assert.deepEqual([counted(1, "edit"), counted(2000, "edit")], ["1 edit", "2,000 edits"]);
 });
 
-const textView = (site) => ({ win: 1, wid: 1, widget: site.board.widget(1, 1) });
+const textView = (site) => ({ win: 1, wid: 1, widget: site.board.widget(1, 1), nameOf: (name) => name });
 const insertions = (text) => Array.from(text, (it) => ({ value: it.codePointAt(0) }));
 
 function shownAfter(site, job) {

@@ -7,7 +7,7 @@ import time
 
 import pdf
 from looks import CONTROLS, tree
-from stage import (ADD, AREA, COUNT, COUNTED, NOTICES, NUMBERS, OFFERED, RANGES, STATE, TOGGLE, WORDS, button, copied, expect, expect_that, focus, leave, named, put, retype, select_all)
+from stage import (ADD, AREA, COUNT, COUNTED, IS_OFFLINE, NOTICES, NUMBERS, OFFERED, RANGES, STATE, TOGGLE, WORDS, button, copied, expect, expect_that, focus, leave, named, put, retype, select_all)
 
 # A server keeps the board within two seconds of a change.
 KEPT = 3
@@ -67,13 +67,17 @@ def bounds(stage):
 
 
 def loses(stage, text):
-    """B types a text that does not reach the server before its link is lost, so it is offered."""
+    """B types a text that does not reach the server before its link is lost, so it is offered. One that lasts is lost with its server."""
     stage.lag.held = {"up"}
     focus(stage.b)
     stage.b.type(text)
     stage.b.until(f"{STATE} === 'sending'")
+    if stage.lasts:
+        stage.server.kill()
     stage.lag.cut()
     stage.b.until(f"{STATE} !== 'sending'")
+    if stage.lasts:
+        stage.server.start()
     stage.b.until(f"{STATE} === 'open'")
 
 
@@ -96,12 +100,13 @@ def notices(stage):
     tab.click(button("Copy", notice))
     copied(tab, " and more")
     opened_again(tab)
-    expect(tab.asked(), 1, "how many times the page asked whether to leave it")
+    tab.until(f"{OFFERED}.length > 0")
     expect(tab.run(f"[{OFFERED}, {COUNTED}]"), [offered, "1 notice"], "what is offered after the tab was loaded again, and the head")
     tab.click(button("Dismiss", notice))
     expect(tab.run(f"[{NOTICES}.length, {COUNTED}, document.getElementById('state').checkVisibility()]"), [0, "", True], "the notices after the last was dismissed, and whether the head says that all is well")
     opened_again(tab)
-    expect([tab.asked(), tab.run(f"{NOTICES}.length")], [1, 0], "how many times the page asked, and the notices")
+    time.sleep(2)
+    expect([tab.asked(), tab.run(f"{NOTICES}.length")], [0, 0], "how many times the page asked whether to leave it, and the notices")
 
 
 def two_notices(stage):
@@ -127,7 +132,7 @@ def lost_and_tried(stage):
     tab = stage.a
     tab.run(TRIES)
     stage.server.stop()
-    tab.until(f"{STATE} === 'lost'")
+    tab.until(IS_OFFLINE)
     expect(tab.run(WORDS), "Offline", "the words of the head")
     tab.until(f"tried.length > {len(WAITS)}", 30)
     tried = tab.run("tried")

@@ -1,5 +1,6 @@
 """What the parts of the page's tests share: a server, two tabs of which one is far away, and what they show."""
 import contextlib
+import functools
 import json
 import os
 import signal
@@ -48,6 +49,8 @@ SHOWN = """[...document.querySelectorAll('main .widget')].map((it) => {
   return area ? area.value : list ? [...list.querySelectorAll('li:not(.ghost) input')].map((field) => field.value) : box ? box.checked : Number(range.value);
 })"""
 STATE = "document.body?.dataset.stage"
+# Whether a page has no link: one of protocol 3 is lost, and one of protocol 4 waits for a connection.
+IS_OFFLINE = f"['lost', 'offline'].includes({STATE})"
 # The areas of texts. A notice in a widget may have an area too, which comes after that of the widget.
 AREAS = "document.querySelectorAll('main .widget textarea:not(.notice textarea)')"
 AREA, OTHER_AREA = f"{AREAS}[0]", f"{AREAS}[1]"
@@ -71,6 +74,15 @@ NOTICES = "[...document.querySelectorAll('.notice')]"
 COUNTED = f"({COUNT}?.checkVisibility() ? {COUNT}.textContent.trim() : '')"
 OFFERED = f"{NOTICES}.flatMap((it) => [...it.querySelectorAll('textarea[readonly]')].map((area) => area.value))"
 
+# Does something with the store of the browser's records. `done` ends it.
+OPENED = "new Promise((done) => { const asked = indexedDB.open('gidzvruka'); asked.onupgradeneeded = () => asked.transaction.abort(); asked.onerror = () => done(0); asked.onsuccess = () => { const store = asked.result.transaction('records', 'readwrite').objectStore('records'); %s } })"
+COUNT_KEPT = OPENED % "store.count().onsuccess = ({ target }) => { asked.result.close(); done(target.result); };"
+
+
+def are_kept(tab, count):
+    """Waits until the browser keeps so many records of the board's server."""
+    tab.until(f"(async () => await {COUNT_KEPT} === {count})()")
+
 
 def expect(found, wanted, what):
     if found != wanted:
@@ -82,10 +94,16 @@ def expect_that(is_so, what):
         raise Differs(f"it is not so that {what}")
 
 
-class Server:
-    """A `jupweb` with a board of its own, at an address that it keeps when it is started again."""
+@functools.cache
+def lasts(program):
+    """Whether the links of a `jupweb` outlive their connections."""
+    return b"--grace" in subprocess.run([program, "--help"], capture_output=True, check=False).stdout
 
-    def __init__(self, program, board=BOARD, limit=LIMIT, origin=None, page=None):
+
+class Server:
+    """A `jupweb` with a board of its own, at an address that it keeps when it is started again. Its links wait so many seconds for a connection, if they can."""
+
+    def __init__(self, program, board=BOARD, limit=LIMIT, origin=None, page=None, grace=None):
         self.folder = tempfile.TemporaryDirectory(prefix="page-")
         self.board, self.captions = f"{self.folder.name}/board", f"{self.folder.name}/captions"
         for path, text in ((self.board, board), (self.captions, CAPTIONS)):
@@ -96,6 +114,7 @@ class Server:
         self.words = [program, "--listen", self.address, "--board", self.board, "--limit", str(limit), "--captions", self.captions]
         self.words += ["--origin", f"http://{origin}"] if origin else []
         self.words += ["--page", page] if page else []
+        self.words += ["--grace", str(grace)] if grace is not None else []
         self.start()
 
     @property
@@ -137,12 +156,13 @@ class Stage:
     def __init__(self, browser, program, is_far=True, shots=None, slack=1, **how):
         self.browser, self.shots, self.slack = browser, shots, slack
         far = free_address()
-        self.server = Server(program, origin=far, **how)
+        self.lasts, self.server = lasts(program), Server(program, origin=far, **how)
         self.lag = Lag(int(far.split(":")[1]), self.server.port, ONE_WAY)
         self.a, self.b = browser.tab(), browser.tab()
         self.tabs = [self.a, self.b]
+        self.far = f"http://{far}/" if is_far else self.server.url
         self.a.open(self.server.url)
-        self.b.open(f"http://{far}/" if is_far else self.server.url)
+        self.b.open(self.far)
         for it in self.tabs:
             it.until(f"{STATE} === 'open'")
 
@@ -151,10 +171,25 @@ class Stage:
 
     def __exit__(self, *_):
         for it in self.tabs:
-            it.call("Page.close")
+            it.close()
         if self.server.process.poll() is None:
             self.server.kill()
         self.server.folder.cleanup()
+
+    def opens_again(self, before=None):
+        """B opens the board in a new tab. The old one is closed, if it is not yet. `before` is evaluated in between, where the board is not open."""
+        self.b.close()
+        self.b = self.tabs[1] = self.browser.tab()
+        if before:
+            self.opens_beside(self.b, before)
+        self.b.open(self.far)
+        self.b.until(f"{STATE} === 'open'")
+
+    def opens_beside(self, tab, code):
+        """Opens something of the server beside the board, and evaluates code there."""
+        tab.open(f"{self.far}captions")
+        tab.until(f"location.href === '{self.far}captions' && document.readyState === 'complete'")
+        tab.run(code)
 
     def picture(self, tab, name):
         """Leaves a picture of a tab, if a folder for it is given."""

@@ -1,6 +1,6 @@
 """What others do changes nothing under a person's hands: lines, carets, selections and what is in view stay where they are."""
 from browser import SHIFT
-from stage import ADD, AREA, AREAS, CAPTIONS, OTHER_AREA, SOON, STATE, expect, expect_that, focus, leave, put, row, selected
+from stage import ADD, AREA, AREAS, CAPTIONS, IS_OFFLINE, OTHER_AREA, SOON, STATE, expect, expect_that, focus, leave, put, row, selected
 
 LINES = [f"line {it} of a long text" for it in range(200)]
 LONG_BOARD = "window 1\ntext 1 \"" + "\\u{a}".join(LINES) + "\"\nlist 2 \"bread\" \"milk\"\ntoggle 3 off\nslider 4 0 10 5\nwindow 2\ntext 1 \"one\\u{a}two\\u{a}three\"\nslider 2 -100 100 0\n"
@@ -146,7 +146,7 @@ def the_link_comes_back(stage):
     was = [hands(it) for it in stage.tabs]
     stage.server.stop()
     for it in stage.tabs:
-        it.until(f"{STATE} === 'lost'")
+        it.until(IS_OFFLINE)
     expect([hands(it) for it in stage.tabs], was, "the fields with the focus while the link is lost")
     stage.server.start()
     stage.a.until(f"{STATE} === 'open'")

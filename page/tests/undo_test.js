@@ -934,6 +934,66 @@ test("a new site of the same run goes on with the steps", () => {
   assert.equal(b.slider, 9);
 });
 
+// The link of a player ends when the star has taken so many of its edits. It joins again as another site, and makes the others again.
+function joinsAgain(star, player, taken) {
+  while (player.link.taken < taken) star.take(player.link);
+  star.links.splice(star.links.indexOf(player.link), 1);
+  star.opening = linesOf(star.board);
+  const again = new Player(star);
+  again.undo = player.undo;
+  again.undo.rejoin(player.board, again.board, taken);
+  again.play(again.undo.mend());
+  return again;
+}
+
+test("what was not taken is made again, and is undone as one's own", () => {
+  const { star, a, b, all } = stage();
+  a.type("Hi ");
+  all();
+  a.type("there", 4);
+  a.erase(0, 1);
+  a.relabel(0, "rolls");
+  a.relabel(1, "oats");
+  a.move(2, 0);
+  a.add("tea");
+  a.slide(7);
+  b.type("XY", 9);
+  b.relabel(1, "cheese");
+  b.slide(9);
+  while (b.link.up.length > 0) star.take(b.link);
+  const again = joinsAgain(star, a, 3 + 2);
+  star.settle();
+  assert.deepEqual([again.text, again.list, again.slider], ["bcdthereefHi XY", "eggs, rolls, cheese, tea", 9]);
+  assert.deepEqual([b.text, b.list, b.slider], [again.text, again.list, again.slider]);
+  again.undoAll();
+  star.settle();
+  assert.deepEqual([b.text, b.list, b.slider], ["abcdefXY", "bread, cheese, eggs", 9]);
+});
+
+test("a deletion gives way to a label of others, and a label to a deletion", () => {
+  const { star, a, b } = stage();
+  a.remove(0);
+  a.relabel(0, "oats");
+  b.relabel(0, "brown bread");
+  b.remove(1);
+  while (b.link.up.length > 0) star.take(b.link);
+  const again = joinsAgain(star, a, 0);
+  assert.equal(again.list, "brown bread, eggs");
+});
+
+test("a second loss loses nothing of what was to be made again", () => {
+  const { star, a } = stage();
+  a.type("one");
+  a.slide(7);
+  a.move(0, 2);
+  const again = joinsAgain(star, a, 1);
+  const third = joinsAgain(star, again, 0);
+  star.settle();
+  assert.deepEqual([third.text, third.list, third.slider], ["abcdefone", "milk, eggs, bread", 7]);
+  third.undoAll();
+  assert.deepEqual([third.text, third.list, third.slider], ["abcdef", "bread, milk, eggs", 50]);
+});
+
 // ---- At random ----
 
 function randomOf(seed) {
@@ -1130,4 +1190,43 @@ test("at random, three who all undo: copies agree, each item is there once, and 
   }
   console.log(`${doubles} items are there twice`);
   assert.ok(doubles < 10);
+});
+
+test("what was not taken is made again, whatever it was, where others are silent", () => {
+  for (let seed = 1; seed <= 150; seed++) {
+    const random = randomOf(seed);
+    const { star, a } = stage();
+    const opening = [a.text, a.list, a.slider];
+    for (let count = 3 + random(12); count > 0; count--) acts(a, random);
+    const now = [a.text, a.list, a.slider];
+    const again = joinsAgain(star, a, random(a.site.made + 1));
+    star.settle();
+    assert.deepEqual([again.text, again.list, again.slider], now, `seed ${seed}`);
+    again.undoAll();
+    assert.deepEqual([again.text, again.list, again.slider], opening, `seed ${seed}, undone`);
+    again.redoAll();
+    assert.deepEqual([again.text, again.list, again.slider], now, `seed ${seed}, done again`);
+  }
+});
+
+test("what was not taken is made again beside others, and copies agree", () => {
+  for (let seed = 1; seed <= 150; seed++) {
+    const random = randomOf(seed);
+    const { star, a, b } = stage();
+    for (let count = 2 + random(6); count > 0; count--) acts(a, random);
+    star.settle();
+    const typed = newLetters(3);
+    a.type(typed, random(a.items(TEXT).length + 1));
+    const taken = a.site.made - random(4);
+    for (let count = random(6); count > 0; count--) acts(b, random);
+    while (b.link.up.length > 0) star.take(b.link);
+    const again = joinsAgain(star, a, taken);
+    for (let count = random(6); count > 0; count--) acts(b, random);
+    star.settle();
+    assert.deepEqual([again.text, again.list, again.slider], [b.text, b.list, b.slider], `seed ${seed}`);
+    for (const it of typed) assert.ok(again.text.split(it).length <= 2, `seed ${seed}: a character is there twice`);
+    again.undoAll();
+    star.settle();
+    assert.deepEqual([again.text, again.list, again.slider], [b.text, b.list, b.slider], `seed ${seed}, undone`);
+  }
 });

@@ -4,7 +4,7 @@ import time
 from browser import CONTROL, SHIFT
 from drafts import cross, field, list_is, others_see
 from editing import AT_RANDOM, DECIDE, pasted
-from stage import (ADD, AREA, COUNTED, FIELDS, LABELS, NUMBERS, OTHER_AREA, RANGES, STATE, TOGGLE, WORDS, button, expect, expect_that, focus, leave, put, retype, row, select_all, together)
+from stage import (ADD, AREA, COUNTED, FIELDS, IS_OFFLINE, LABELS, NUMBERS, OTHER_AREA, RANGES, STATE, TOGGLE, WORDS, button, expect, expect_that, focus, leave, put, retype, row, select_all, together)
 
 BOARD = "window 1\ntext 1 \"abcdef\"\nlist 2 \"bread\" \"milk\" \"eggs\"\ntoggle 3 off\nslider 4 0 10 5\nwindow 2\ntext 1 \"\"\nslider 2 -100 100 0\n"
 OPENING = ["abcdef", ["bread", "milk", "eggs"], False, 5, "", 0]
@@ -425,16 +425,21 @@ def in_view(stage):
 
 
 def after_a_loss(stage):
-    """While the link is lost nothing is undone, and the page says so. On a server that was started again there is nothing to undo."""
+    """While a link of protocol 3 is lost nothing is undone, and the page says so. On a server that was started again there is nothing to undo."""
     focus(stage.a)
     stage.a.type("Hello")
     stage.agreed()
     stage.server.stop()
-    stage.a.until(f"{STATE} === 'lost'")
+    stage.a.until(IS_OFFLINE)
     focus(stage.a)
     by_keys(stage.a)
-    says(stage.a, "Undo works again once the link is back")
-    expect(stage.a.run(f"[{AREA}.value, {UNDO}.ariaDisabled]"), ["abcdefHello", "true"], "the text, and whether the button is grey")
+    if stage.lasts:
+        expect(stage.a.run(f"{AREA}.value"), "abcdef", "the text, undone without a link")
+        by_keys(stage.a, "Redo")
+    else:
+        says(stage.a, "Undo works again once the link is back")
+        expect(stage.a.run(f"{UNDO}.ariaDisabled"), "true", "whether the button is grey")
+    expect(stage.a.run(f"{AREA}.value"), "abcdefHello", "the text")
     stage.server.start()
     for it in stage.tabs:
         it.until(f"{STATE} === 'open'")
@@ -453,7 +458,7 @@ def a_link_of_the_same_run(stage):
     stage.b.type("Hello")
     stage.agrees_on("abcdefHello")
     stage.lag.cut()
-    stage.b.until(f"{STATE} === 'lost'")
+    stage.b.until(IS_OFFLINE)
     stage.b.until(f"{STATE} === 'open'")
     by_keys(stage.b)
     stage.agrees_on("abcdef")

@@ -6,7 +6,7 @@ pub const PAGE: &[u8] = br#"<!doctype html>
 <html lang="en">
 <head>
 <meta charset="utf-8">
-<meta http-equiv="Content-Security-Policy" content="default-src 'none'; script-src 'sha256-8BrjAq8tTrSOt36soPjsK9F+sxruAa+RhByTynHvphk='; style-src 'sha256-2J0scaMTUjMUSUoSuONkA9TAZ83uO5wYEEv5NNC81ac='; img-src data:; connect-src 'self'; base-uri 'none'; form-action 'none'">
+<meta http-equiv="Content-Security-Policy" content="default-src 'none'; script-src 'sha256-CP2HJwpIVIIrDnqkPvysLh175IsfU13pJ3O831mmtD0='; style-src 'sha256-DuI8mRnbR21lAdXj+Uc+Lhi0Y1t1pOgoTLloce9TMNs='; img-src data:; connect-src 'self'; base-uri 'none'; form-action 'none'">
 <meta name="viewport" content="width=device-width, initial-scale=1">
 <meta name="color-scheme" content="light dark">
 <title>Gidzvruka</title>
@@ -42,7 +42,7 @@ padding:.6rem max(1rem,env(safe-area-inset-right)) .6rem max(1rem,env(safe-area-
 #state{font-variant-numeric:tabular-nums;}
 #state::before{content:"";display:inline-block;width:.6rem;height:.6rem;margin-right:.45rem;border-radius:50%;background:var(--bad);transition:background .1s;}
 [data-stage=open] #state::before{background:var(--good);}
-:is([data-stage=sending],[data-stage=connecting],[data-stage=draft]) #state::before{background:var(--wait);transition-delay:.2s;}
+:is([data-stage=sending],[data-stage=connecting],[data-stage=draft],[data-stage=joining]) #state::before{background:var(--wait);transition-delay:.2s;}
 :is([data-stage=lost],[data-stage=waiting]) #state{color:var(--bad);font-weight:600;}
 #notice-count{color:var(--bad);border-color:var(--bad);font-weight:600;}
 #menu{position:fixed;inset:3.4rem 1rem auto auto;width:min(24rem,calc(100vw - 2rem));max-height:calc(100vh - 5rem);overflow:auto;margin:0;padding:1rem;color:var(--ink);background:var(--card);border:1px solid var(--edge);border-radius:.6rem;}
@@ -89,6 +89,7 @@ textarea{resize:vertical;field-sizing:content;min-height:5.4rem;max-height:60vh;
 :is(textarea,input,button):focus-visible{outline:3px solid var(--accent);outline-offset:1px;}
 [aria-invalid=true]{border-color:var(--bad);outline-color:var(--bad) !important;}
 .hint{color:var(--bad);font-size:.9rem;}
+summary{min-height:2.5rem;cursor:pointer;}
 button{font:inherit;color:var(--ink);min-width:2.5rem;min-height:2.5rem;padding:0 .6rem;border:1px solid var(--edge);border-radius:.4rem;background:var(--card);cursor:pointer;}
 button:hover{border-color:var(--ink);}
 [aria-disabled=true]{opacity:.5;cursor:not-allowed;}
@@ -138,6 +139,7 @@ input[role=switch]::after{background:ButtonText !important;}
 <section id="menu" popover aria-labelledby="menu-caption">
 <h2 id="menu-caption">This board</h2>
 <div id="menu-own"></div>
+<p>What waits to be sent is kept on this device. A private window forgets it when it is closed.</p>
 <h2>Keys</h2>
 <dl>
 <dt>Enter, &uarr;, &darr;</dt><dd>send what is typed in an item, and go to the next or the one before</dd>
@@ -156,1905 +158,575 @@ input[role=switch]::after{background:ButtonText !important;}
 <main id="board"></main>
 <noscript>This page needs JavaScript.</noscript>
 <script type="module">
-const MOST_OPERATIONS=32;
-const MOST_ITEMS=65536;
-const MOST_WAITING=1024;
-const MOST_LETTERS=48;
-const MOST_WIDGETS=64;
-const ACKNOWLEDGE_AFTER=64;
-const LINE_LIMIT=256;
-const LAST_PLACE=4294967295;
-const FAULT={NoWindow:1,NoWidget:2,WrongKind:3,BadPlace:4,BadValue:5,LongText:6,Backlog:7,NoMemory:8,Spent:9,DoubleId:10,TooMany:11,BadId:12,BadBounds:13,BadBatch:15,BadCount:20,BadAck:21,BadName:22,BadOp:23,Stopped:25,Full:30,SitesSpent:31,LogFull:32,BadLine:40,LongLine:41,BadVersion:42,Misplaced:44,BadItemName:45,BadLimit:50,BadSite:51,};
-class Fault extends Error{constructor(number){super(`fault ${number}`);
-this.number=number;}}
-const fail=(number)=>{throw new Fault(number);};
-const NUM="(0|[1-9][0-9]*)";
-const NAME="((?:0|[1-9][0-9]*)\\.(?:0|[1-9][0-9]*))";
-const INT="(0|-?[1-9][0-9]*)";
-const LABEL=`([ -~]{1,${MOST_LETTERS}})`;
-const SETTING="(on|off)";
-const whole=(shape)=>new RegExp(`^${shape}$`);
-const LABEL_SHAPE=whole(LABEL);
-const isLabel=(text)=>LABEL_SHAPE.test(text);
-const isScalar=(value)=>Number.isInteger(value)&&value>=0&&(value<0xd800||value>0xdfff)&&value<0x110000;
-const matched=(shape,text)=>shape.exec(text)??fail(FAULT.BadLine);
-const below=(text,end)=>(text.length<=10&&Number(text)<end?Number(text):fail(FAULT.BadLine));
-const num=(text)=>below(text,2**32);
-const id=(text)=>below(text,2**16);
-const int=(text)=>(text.length<=11&&Number(text)===(Number(text)|0)?Number(text):fail(FAULT.BadLine));
-const scalar=(text)=>(isScalar(num(text))?num(text):fail(FAULT.BadLine));
-const setting=(text)=>text==="on";
-function name(text){text.split(".").forEach(num);
-return text;}
-const WORDS={hello:[whole(NUM),(version)=>num(version)===3||fail(FAULT.BadVersion)],welcome:[whole(`${NUM} ${NUM}`),(site,limit)=>({site:num(site),limit:num(limit)})],window:[whole(NUM),(it)=>({id:id(it)})],text:[whole(NUM),(it)=>({id:id(it)})],list:[whole(NUM),(it)=>({id:id(it)})],toggle:[whole(`${NUM} ${SETTING}`),(it,value)=>({id:id(it),value:setting(value)})],slider:[whole(`${NUM} ${INT} ${INT} ${INT}`),(it,low,high,value)=>({id:id(it),low:int(low),high:int(high),value:int(value)})],char:[whole(`${NAME} ${NUM}`),(it,value)=>({name:name(it),value:scalar(value)})],item:[whole(`${NAME} ${LABEL}`),(it,value)=>({name:name(it),value})],batch:[whole(`${NUM} ${NUM} ${NUM}`),readBatch],do:[whole(`${NUM} ${NUM} (text|list|toggle|slider) (ins|del|rel|set|no)(?: (.*))?`),readOperation],ack:[whole(NUM),(it)=>({number:num(it)})],ping:[whole(NUM),(it)=>({number:num(it)})],pong:[whole(NUM),(it)=>({number:num(it)})],error:[whole(NUM),(it)=>({number:num(it)})],ready:[null,()=>({})],bye:[null,()=>({})],};
-const BODIES={"text ins":[whole(`${NUM} ${NAME} ${NUM}`),(place,it,value)=>({place:num(place),name:name(it),value:scalar(value)})],"text del":[whole(`${NUM} ${NAME}`),(place,it)=>({place:num(place),name:name(it)})],"list ins":[whole(`${NUM} ${NAME} ${LABEL}`),(place,it,value)=>({place:num(place),name:name(it),value})],"list del":[whole(`${NUM} ${NAME}`),(place,it)=>({place:num(place),name:name(it)})],"list rel":[whole(`${NUM} ${NAME} ${LABEL}`),(place,it,value)=>({place:num(place),name:name(it),value})],"toggle set":[whole(SETTING),(value)=>({value:setting(value)})],"slider set":[whole(INT),(value)=>({value:int(value)})],};
-function readBatch(mine,heard,count){const read={mine:num(mine),heard:num(heard),count:num(count)};
-return read.count>=1&&read.count<=MOST_OPERATIONS?read:fail(FAULT.BadLine);}
-function readOperation(win,wid,kind,verb,rest){const op={win:id(win),wid:id(wid),kind,verb};
-if(verb==="no")return rest===undefined?{op}:fail(FAULT.BadLine);
-const[shape,fields]=BODIES[`${kind} ${verb}`]??fail(FAULT.BadLine);
-return{op:{...op,...fields(...matched(shape,rest??"").slice(1))}};}
-function readLine(line){if(line.length>=LINE_LIMIT)fail(FAULT.LongLine);
-const[word]=line.split(" ",1);
-const[shape,fields]=Object.hasOwn(WORDS,word)?WORDS[word]:fail(FAULT.BadLine);
-if(shape===null)return line===word?{word}:fail(FAULT.BadLine);
-return{word,...fields(...matched(shape,line.slice(word.length + 1)).slice(1))};}
-function operationLine(op){const words=["do",op.win,op.wid,op.kind,op.verb];
-if(op.verb==="set")words.push(op.kind==="toggle"?(op.value?"on":"off"):op.value);
-else if(op.verb!=="no")words.push(op.place,op.name);
-if(op.verb==="ins"||op.verb==="rel")words.push(op.value);
-return words.join(" ");}
-class Lines{rest="";
-take(piece){const lines=(this.rest + piece).split("\n");
-this.rest=lines.pop();
-if(this.rest.length<LINE_LIMIT)return lines;
-return[...lines,this.rest];}}
-const moved=(op,place)=>(place===op.place?op:{...op,place:Math.min(place,LAST_PLACE)});
-const nothing=({win,wid,kind})=>({win,wid,kind,verb:"no"});
-function past(op,other){if(other.verb==="rel")return op;
-if(other.verb==="del"){if(op.verb!=="ins"&&op.name===other.name)return nothing(op);
-return other.place<op.place?moved(op,op.place - 1):op;}
-const isPushed=op.verb==="ins"?other.place<op.place:other.place<=op.place;
-return isPushed?moved(op,op.place + 1):op;}
-function transform(client,server){if(client.win!==server.win||client.wid!==server.wid||client.verb==="no"||server.verb==="no")return[client,server];
-if(client.verb==="set")return[client,nothing(server)];
-if(client.verb==="rel"&&server.verb==="rel")return[client,client.name===server.name?nothing(server):server];
-if(client.verb==="ins"&&server.verb==="ins"&&client.place===server.place)return[client,moved(server,server.place + 1)];
-return[past(client,server),past(server,client)];}
-function transformEdits(client,server){const servers=[...server];
-const clients=client.map((op)=>{let own=op;
-for(let i=0;i<servers.length;i++)[own,servers[i]]=transform(own,servers[i]);
-return own;});
-return[clients,servers];}
-class Board{windows=new Map();
-#window=null;
-#widget=null;
-widget(win,wid){return this.windows.get(win)?.get(wid);}
-readLine(line){if(line.word==="window")return this.#addWindow(line.id);
-if(line.word==="char"||line.word==="item")return this.#addItem(line);
-if(!this.#window)fail(FAULT.Misplaced);
-const{id,word:kind,...rest}=line;
-if(kind==="slider"&&(rest.value<rest.low||rest.value>rest.high))fail(FAULT.BadBounds);
-testId(this.#window,id);
-this.#widget=kind==="text"||kind==="list"?{kind,items:[],names:new Set()}:{kind,...rest};
-return this.#window.set(id,this.#widget);}
-#addWindow(win){testId(this.windows,win);
-this.#window=new Map();
-return this.windows.set(win,this.#window);}
-#addItem(line){if(this.#widget?.kind!==(line.word==="char"?"text":"list"))fail(FAULT.Misplaced);
-if(this.#widget.names.has(line.name))fail(FAULT.BadItemName);
-this.#widget.names.add(line.name);
-return this.#widget.items.push({name:line.name,value:line.value});}
-applyAll(steps,operation=(op)=>op,test=()=>{}){const took=[];
-const reverts=[];
-const names=new Set();
-try{for(const step of steps){const op=operation(step);
-if(op.verb==="ins"&&names.has(op.name))fail(FAULT.BadOp);
-const left=this.widget(op.win,op.wid)?.items?.[op.place - 1]?.name??null;
-const revert=this.#apply(op);
-reverts.push(revert);
-if(op.verb==="ins"||op.verb==="del")names.add(op.name);
-took.push({op,value:revert.value,left});}
-test();
-return took;}catch(fault){for(const revert of reverts.reverse())this.#apply(revert);
-throw fault;}}
-#apply(op){if(op.verb==="no")return op;
-const widget=this.widget(op.win,op.wid);
-if(widget?.kind!==op.kind)fail(FAULT.BadOp);
-if(op.verb==="set")return set(widget,op);
-return op.verb==="ins"?insert(widget,op):change(widget,op);}}
-function testId(taken,id){if(id===0)fail(FAULT.BadId);
-if(taken.has(id))fail(FAULT.DoubleId);
-if(taken.size>=MOST_WIDGETS)fail(FAULT.TooMany);}
-function set(widget,op){if(widget.kind==="slider"&&(op.value<widget.low||op.value>widget.high))fail(FAULT.BadOp);
-const before=widget.value;
-widget.value=op.value;
-return{...op,value:before};}
-function insert({items,names},op){if(op.place>items.length||names.has(op.name))fail(FAULT.BadOp);
-items.splice(op.place,0,{name:op.name,value:op.value});
-names.add(op.name);
-return{...op,verb:"del"};}
-function change({items,names},op){const before=items[op.place];
-if(before?.name!==op.name)fail(FAULT.BadOp);
-if(op.verb==="rel"){items[op.place]={name:op.name,value:op.value};
-return{...op,value:before.value};}
-items.splice(op.place,1);
-names.delete(op.name);
-return{...op,verb:"ins",value:before.value};}
-const BOARD_WORDS=new Set(["window","text","list","toggle","slider","char","item"]);
-class Site{stage="welcome";
-board=new Board();
-site=0;
-limit=0;
-made=0;
-heard=0;
-#waiting=[];
-#acknowledged=0;
-#unanswered=0;
-#insertions=0;
-#pings=0;
-#saidBye=false;
-#lines=[];
-#coming=null;
-#send;
-#told;
-constructor(send,told=()=>{}){this.#send=send;
-this.#told=told;}
-greet(){this.#send("hello 3\n");}
-hear(line){if(this.stage==="stopped")return;
-try{this.#take(readLine(line));}catch(fault){this.stop();
-throw fault;}}
-stop(){this.stage="stopped";}
-ping(){this.#pings +=1;
-this.#send(`ping ${this.#pings}\n`);
-return this.#pings;}
-bye(){this.#saidBye=true;
-this.#send("bye\n");}
-get backlog(){return this.#waiting.length;}
-edit(commands){if(this.stage!=="open")fail(FAULT.Stopped);
-if(commands.length<1||commands.length>MOST_OPERATIONS)fail(FAULT.BadBatch);
-const took=this.#apply(commands);
-const ops=took.map(({op})=>op);
-const nth=this.made;
-this.#waiting.push(ops);
-const lines=[`batch ${nth} ${this.heard} ${ops.length}`,...ops.map(operationLine)];
-this.made +=1;
-this.#unanswered=0;
-this.#send(`${lines.join("\n")}\n`);
-this.#told("made",{took,nth});
-return ops;}
-#apply(commands){const insertions=this.#insertions;
-try{return this.board.applyAll(commands,(command)=>this.#operation(command),()=>this.#testRoom());}catch(fault){this.#insertions=insertions;
-throw fault;}}
-#testRoom(){if(this.#waiting.length>=MOST_WAITING)fail(FAULT.Backlog);
-if(this.made>=this.limit)fail(FAULT.Spent);}
-#operation({verb,win,wid,place,value,kind}){if(!this.board.windows.has(win))fail(FAULT.NoWindow);
-const widget=this.board.widget(win,wid)??fail(FAULT.NoWidget);
-const op={win,wid,kind:widget.kind,verb};
-testFits(widget,verb,value,kind);
-if(verb==="set")return{...op,value};
-if(place>widget.items.length -(verb==="ins"?0:1))fail(FAULT.BadPlace);
-if(verb==="ins"){if(widget.items.length>=MOST_ITEMS)fail(FAULT.LongText);
-this.#insertions +=1;
-return{...op,place,name:`${this.site}.${this.#insertions}`,value};}
-const found={...op,place,name:widget.items[place].name};
-return verb==="rel"?{...found,value}:found;}
-#take(line){if(this.#coming)return this.#takeOperation(line);
-if(line.word==="error")fail(line.number);
-if(this.stage==="welcome")return this.#takeWelcome(line);
-return this.stage==="board"?this.#takeBoard(line):this.#takeMessage(line);}
-#takeWelcome({word,site,limit}){if(word!=="welcome")fail(FAULT.Misplaced);
-Object.assign(this,{site,limit,stage:"board"});}
-#takeBoard(line){if(line.word!=="ready"){if(!BOARD_WORDS.has(line.word))fail(FAULT.Misplaced);
-this.#lines.push(line);
-return;}
-for(const it of this.#lines)this.board.readLine(it);
-if(this.limit<1||this.limit>16777216)fail(FAULT.BadLimit);
-if(this.site<1||this.site>65535||this.#lines.some((it)=>it.name&&this.#isOwn(it.name)))fail(FAULT.BadSite);
-this.#lines=[];
-this.stage="open";
-this.#told("ready");}
-#takeMessage(line){switch(line.word){case "batch":
-this.#coming={...line,ops:[]};
-break;
-case "ack":
-this.#drop(line.number);
-break;
-case "pong":
-this.#told("pong",line.number);
-break;
-case "bye":
-if(!this.#saidBye)fail(FAULT.Misplaced);
-this.stop();
-break;
-default:
-fail(FAULT.Misplaced);}}
-#takeOperation(line){if(line.word!=="do")fail(FAULT.Misplaced);
-const{mine,heard,count,ops}=this.#coming;
-ops.push(line.op);
-if(ops.length<count)return;
-this.#coming=null;
-this.#receive(mine,heard,ops);}
-#receive(mine,heard,ops){if(mine!==this.heard)fail(FAULT.BadCount);
-this.#drop(heard);
-if(ops.some((op)=>op.verb==="ins"&&this.#isOwn(op.name)))fail(FAULT.BadName);
-let comes=ops;
-this.#waiting=this.#waiting.map((edit)=>{const[own,others]=transformEdits(edit,comes);
-comes=others;
-return own;});
-const took=this.board.applyAll(comes);
-this.heard +=1;
-this.#acknowledge();
-this.#told("came",{raw:ops,took,heard});
-for(const op of comes)if(op.verb!=="no")this.#told("changed",op);}
-#acknowledge(){this.#unanswered +=1;
-if(this.#unanswered<ACKNOWLEDGE_AFTER)return;
-this.#unanswered=0;
-this.#send(`ack ${this.heard}\n`);}
-#drop(count){if(count<this.#acknowledged||count>this.made)fail(FAULT.BadAck);
-this.#waiting.splice(0,count - this.#acknowledged);
-this.#acknowledged=count;}
-#isOwn(itemName){return itemName.startsWith(`${this.site}.`);}}
-function testFits(widget,verb,value,kind){if(verb==="set")return testSetting(widget,value);
-const isText=widget.kind==="text";
-if(!isText&&widget.kind!=="list")fail(FAULT.WrongKind);
-if(verb==="rel"&&isText)fail(FAULT.WrongKind);
-if(verb==="ins"&&kind&&kind!==(isText?"char":"item"))fail(FAULT.WrongKind);
-if(verb!=="del"&&!(isText?isScalar(value):isLabel(value)))fail(FAULT.WrongKind);
-return undefined;}
-function testSetting(widget,value){const type={toggle:"boolean",slider:"number"}[widget.kind];
-if(typeof value!==type)fail(FAULT.WrongKind);
-if(widget.kind==="slider"&&(value<widget.low||value>widget.high))fail(FAULT.BadValue);}
-const LINES_SLICE=8;
-const LINES_BETWEEN=16;
-const MOST_SENT=32768;
-const BEAT=5000;
-const QUIET=20000;
-const SILENT=15000;
-const WAITS=[500,1000,2000,4000,5000];
-const SPREAD=0.2;
-const HURRY=1000;
-const channel=new MessageChannel();
-const tasks=[];
-channel.port1.onmessage=()=>tasks.shift()();
-function later(task){tasks.push(task);
-channel.port2.postMessage(null);}
-class Link{confirmed=0;
-#address;
-#told;
-#socket=null;
-#lines;
-#unheard;
-#isDue=false;
-#unsent="";
-#asked=null;
-#aliveAt=0;
-#unwritten=0;
-#triedAt=0;
-#tries=0;
-#retry=0;
-constructor(address,told){this.#address=address;
-this.#told=told;
-setInterval(()=>this.#beat(),BEAT);
-this.open();}
-get isOpen(){return this.site.stage==="open";}
-open(){clearTimeout(this.#retry);
-const socket=new WebSocket(this.#address);
-const ifMine=(step)=>(event)=>socket===this.#socket&&step(event);
-this.#socket=socket;
-this.#lines=new Lines();
-this.#unheard=[];
-this.#unsent="";
-this.#asked=null;
-this.#aliveAt=performance.now();
-this.#triedAt=this.#aliveAt;
-this.#unwritten=0;
-this.confirmed=0;
-this.site=new Site((text)=>this.#send(text),(what,it)=>this.#happened(what,it));
-socket.addEventListener("open",ifMine(()=>this.site.greet()));
-socket.addEventListener("message",ifMine((event)=>this.#came(event.data)));
-socket.addEventListener("close",ifMine(()=>this.#lose()));}
-hurry(){if(this.#socket===null&&!this.hasLeft&&performance.now()- this.#triedAt>=HURRY)this.open();}
-edit(commands){const ops=this.site.edit(commands);
-this.#ask();
-return ops;}
-leave(){this.hasLeft=true;
-if(!this.isOpen)return;
-this.site.bye();
-this.#flush();
-this.#socket.close();}
-comeBack(){if(!this.hasLeft)return;
-this.hasLeft=false;
-this.open();}
-#send(text){if(this.#unsent==="")queueMicrotask(()=>this.#flush());
-this.#unsent +=text;
-if(this.#unsent.length>MOST_SENT)this.#flush();}
-#flush(){if(this.#unsent!==""&&this.#socket?.readyState===WebSocket.OPEN)this.#socket.send(this.#unsent);
-this.#unsent="";}
-#came(piece){this.#aliveAt=performance.now();
-this.#unheard.push(...this.#lines.take(piece));
-if(!this.#isDue)this.#hear();}
-#hear(){const{site}=this;
-const lines=this.#unheard;
-const end=performance.now()+ LINES_SLICE;
-let count=0;
-try{while(count<lines.length&&(count % LINES_BETWEEN>0||performance.now()<end))site.hear(lines[count++]);}catch(fault){if(!(fault instanceof Fault))throw fault;
-this.#lose(lines[count - 1]==="bye"?undefined:fault.number);}
-lines.splice(0,count);
-this.#isDue=lines.length>0;
-if(this.#isDue)later(()=>this.#hear());
-this.#told("heard");}
-#happened(what,it){if(what==="ready")this.#tries=0;
-if(what!=="pong")this.#told(what,it);
-else if(it===this.#asked?.number){this.confirmed=this.#asked.made;
-this.#asked=null;
-this.#told("confirmed");
-this.#ask();}}
-#ask(){if(this.isOpen&&this.#asked===null&&this.confirmed<this.site.made)this.#ping();}
-#ping(){this.#asked={number:this.site.ping(),made:this.site.made,at:performance.now()};}
-#beat(){if(this.#socket===null)return;
-const now=performance.now();
-const{bufferedAmount}=this.#socket;
-if(bufferedAmount<this.#unwritten)this.#aliveAt=now;
-this.#unwritten=bufferedAmount;
-const silence=now - this.#aliveAt;
-const isAwaited=this.isOpen?this.#asked!==null&&now - this.#asked.at>SILENT:true;
-if(isAwaited&&silence>SILENT)this.#lose();
-else if(this.isOpen&&this.#asked===null&&silence>QUIET)this.#ping();}
-#lose(fault){const socket=this.#socket;
-this.#socket=null;
-this.site.stop();
-socket.close();
-if(this.hasLeft)return;
-const hasNoRoom=fault===FAULT.Full||fault===FAULT.SitesSpent;
-const wait=hasNoRoom?WAITS.at(-1):WAITS[Math.min(this.#tries,WAITS.length - 1)];
-this.#tries +=1;
-this.#retry=setTimeout(()=>this.open(),wait*(1 - SPREAD + 2*SPREAD*Math.random()));
-this.#told("lost",fault);}}
-const SHARE=3;
-const SHORTEST_PAUSE=16;
-const LONGEST_PAUSE=500;
-class Drawing{#views;
-#timer=null;
-#drawnAt=0;
-#pause=SHORTEST_PAUSE;
-constructor(views){this.#views=views;}
-soon(){if(this.#timer!==null)return;
-const wait=this.#drawnAt + this.#pause - performance.now();
-if(wait<=0)this.now();
-else this.#timer=setTimeout(()=>this.now(),wait);}
-now(){clearTimeout(this.#timer);
-this.#timer=null;
-const stale=[...this.#views.values()].filter((view)=>view.isStale);
-if(stale.length===0)return;
-const begun=performance.now();
-for(const view of stale)view.update();
-this.#drawnAt=performance.now();
-requestAnimationFrame((frame)=>later(()=>this.#pauseFor(this.#drawnAt - begun + performance.now()- frame)));}
-#pauseFor(cost){this.#pause=Math.min(LONGEST_PAUSE,Math.max(SHORTEST_PAUSE,SHARE*cost));}}
-const shownAs=(value)=>(value===13?"\u240d":value===0?"\u2400":String.fromCodePoint(value));
-function textOf(items){let text="";
-for(const{value}of items)text +=shownAs(value);
-return text;}
-const scalarsOf=(text)=>Array.from(text,(it)=>(isScalar(it.codePointAt(0))?it.codePointAt(0):0xfffd));
-const isFirstHalf=(code)=>code>=0xd800&&code<0xdc00;
-const isSecondHalf=(code)=>code>=0xdc00&&code<0xe000;
-function difference(was,is,cursor=is.length){const shortest=Math.min(was.length,is.length);
-const atEnd=(most,from)=>{let count=from;
-while(count<most&&was.charCodeAt(was.length - 1 - count)===is.charCodeAt(is.length - 1 - count))count +=1;
-return count;};
-let tail=atEnd(Math.min(shortest,is.length - cursor),0);
-let head=0;
-while(head<shortest - tail&&was.charCodeAt(head)===is.charCodeAt(head))head +=1;
-tail=atEnd(shortest - head,tail);
-if(head>0&&isFirstHalf(was.charCodeAt(head - 1)))head -=1;
-if(tail>0&&isSecondHalf(was.charCodeAt(was.length - tail)))tail -=1;
-return{head,tail};}
-function placeOf(items,name,near){const from=Math.min(near,items.length);
-for(let away=0;away<=items.length;away++){if(items[from + away]?.name===name)return from + away;
-if(items[from - away]?.name===name)return from - away;}
-return -1;}
-function readCaptions(text){const captions=new Map();
-for(const[,key,quoted]of text.matchAll(/^(\d+(?:\.\d+)?) "(.*)"$/gm)){captions.set(key,quoted.replace(/\\u\{(\w{1,6})\}|\\(.)/g,(_,hex,plain)=>plain??shownAs(Number.parseInt(hex,16))));}
-return captions;}
-const counted=(count,thing)=>`${count.toLocaleString("en")} ${thing}${count === 1 ? "" : "s"}`;
-const REASONS={[FAULT.LongText]:"A text or a list has at most 65,536 items.",[FAULT.Backlog]:"Too much waits for the server. Try again in a moment.",[FAULT.NoMemory]:"The server is out of memory.",[FAULT.Spent]:"The board takes no more edits. You can still read it.",[FAULT.Full]:"64 others are connected, and no more can be. This page joins when one has left.",[FAULT.SitesSpent]:"The server has no number left for a new connection. It has to be started again.",[FAULT.LogFull]:"The board takes no more edits. You can still read it.",};
-const reasonOf=(number)=>REASONS[number]??`The server and this page did not understand each other (fault ${number}).`;
-const key=({win,wid})=>`${win}.${wid}`;
-const isOf=(site,name)=>name.startsWith(`${site}.`);
-function*itemsOf(board){for(const[win,widgets]of board.windows){for(const[wid,{items}]of widgets)for(const item of items??[])yield[`${win}.${wid} ${item.name}`,item];}}
-function isSameRun(old,now){if(now.site<=old.site)return false;
-const names=new Set();
-for(const[at,{name}]of itemsOf(old.board))if(!isOf(0,name))names.add(at);
-if(names.size===0)return true;
-for(const[at]of itemsOf(now.board))if(names.has(at))return true;
-return false;}
-function missing(edits,site,board){const values=new Map();
-for(const[at,{name,value}]of itemsOf(board))if(isOf(site,name))values.set(at,value);
-const isThere=(op)=>op.verb==="ins"&&values.get(`${key(op)} ${op.name}`)===op.value;
-return edits.slice(1 + edits.findLastIndex((ops)=>ops.some(isThere)));}
-function maybeMissing(edits,old,now){const tests=new Map();
-const isLacking=(op)=>{if(!tests.has(key(op)))tests.set(key(op),lackOf(old.widget(op.win,op.wid),now.widget(op.win,op.wid)));
-return tests.get(key(op))(op);};
-return edits.map((ops)=>ops.filter(isLacking));}
-function lackOf(was,is){if(was.kind!==is?.kind)return()=>true;
-if(was.kind==="text")return lackOfText(was,is);
-if(was.kind!=="list")return()=>was.value!==is.value;
-const[before,labels]=[was.items.map(({value})=>value),is.items.map(({value})=>value)];
-if(JSON.stringify(before)===JSON.stringify(labels))return()=>false;
-const lacking=new Set(was.items.filter(({value})=>!labels.includes(value)).map(({name})=>name));
-return({verb,name})=>verb==="del"||lacking.has(name);}
-function lackOfText(was,is){const[before,shown]=[textOf(was.items),textOf(is.items)];
-if(before===shown)return()=>false;
-const{head,tail}=difference(before,shown);
-const names=new Set();
-let offset=0;
-for(const{name,value}of was.items){if(offset>=head&&offset<before.length - tail)names.add(name);
-offset +=shownAs(value).length;}
-return({verb,name})=>verb==="del"||names.has(name);}
-function wordsOf(edits,board,rests){const touched=new Map(Array.from(rests.keys(),(it)=>[it,[]]));
-for(const op of edits.flat())touched.set(key(op),[...(touched.get(key(op))??[]),op]);
-const words=new Map();
-for(const[it,ops]of touched){const found=widgetWords(board.widget(...it.split(".").map(Number)),ops,rests.get(it));
-if(found!=="")words.set(it,found);}
-return words;}
-function widgetWords(widget,ops,job){if(widget.kind==="toggle")return ops.at(-1).value?"on":"off";
-if(widget.kind==="slider")return String(ops.at(-1).value);
-const namesOf=(...verbs)=>new Set(ops.filter((op)=>verbs.includes(op.verb)).map((op)=>op.name));
-const made=namesOf("ins","rel");
-const own=namesOf("ins");
-const gone=[...namesOf("del")].filter((name)=>!own.has(name)).length +(job?.deletions??0);
-const lines=widget.kind==="list"?widget.items.filter((it)=>made.has(it.name)).map((it)=>it.value):runsOf(widget.items,made);
-if(job?.rest.length>0)lines.push((lines.pop()??"")+ job.rest.map(shownAs).join(""));
-if(gone>0)lines.push(`(${counted(gone, widget.kind === "list" ? "item" : "character")} deleted)`);
-return lines.join("\n");}
-function runsOf(items,names){const runs=[];
-items.forEach((item,at)=>{if(!names.has(item.name))return;
-if(at>0&&names.has(items[at - 1].name))runs.at(-1).push(item);
-else runs.push([item]);});
-return runs.map(textOf);}
-function asText(board,captionOf){const parts=[];
-for(const[win,widgets]of board.windows){const caption=captionOf(String(win));
-parts.push(`${caption}\n${"=".repeat(Array.from(caption).length)}`);
-for(const[wid,widget]of widgets)parts.push(captionOf(`${win}.${wid}`,widget.kind)+ ":" + contentsOf(widget));}
-return `${parts.join("\n\n")}\n`;}
-function contentsOf(widget){if(widget.kind==="text")return `\n${charactersOf(widget)}`;
-if(widget.kind==="list")return widget.items.map(({value})=>`\n- ${value}`).join("");
-return ` ${settingOf(widget)}`;}
-const charactersOf=({items})=>items.map(({value})=>String.fromCodePoint(value)).join("");
-const settingOf=({kind,value})=>(kind==="toggle"?(value?"on":"off"):String(value));
-const copyOf=(widget)=>(widget.kind==="text"?charactersOf(widget):widget.items.map(({value})=>value).join("\n"));
-function asPrinted(board){const lines=[];
-for(const[win,widgets]of board.windows){lines.push(`window ${win}`);
-for(const[wid,widget]of widgets)lines.push([widget.kind,wid,...printedWords(widget)].join(" "));}
-return lines.map((line)=>`${line}\n`).join("");}
-function printedWords(widget){if(widget.kind==="text")return[quoted(charactersOf(widget))];
-if(widget.kind==="list")return widget.items.map(({value})=>quoted(value));
-return widget.kind==="toggle"?[settingOf(widget)]:[widget.low,widget.high,widget.value];}
-function quoted(text){const spelled=Array.from(text,(it)=>{if(it==='"'||it==="\\")return `\\${it}`;
-return it>=" "&&it<="~"?it:`\\u{${it.codePointAt(0).toString(16)}}`;});
-return `"${spelled.join("")}"`;}
-function asJson(board,captionOf){const windows=Array.from(board.windows,([id,widgets])=>({id,caption:captionOf(String(id)),widgets:Array.from(widgets,([wid,widget])=>({id:wid,kind:widget.kind,caption:captionOf(`${id}.${wid}`,widget.kind),...fieldsOf(widget)})),}));
-return `${JSON.stringify({ windows }, null, 2)}\n`;}
-function fieldsOf(widget){if(widget.kind==="text")return{value:charactersOf(widget)};
-if(widget.kind==="list")return{items:widget.items.map(({value})=>value)};
-return widget.kind==="toggle"?{value:widget.value}:{low:widget.low,high:widget.high,value:widget.value};}
-const GLOW=1500;
-const FLASH=600;
-const REMARK=6000;
-const LATE=500;
-const prefersCalm=matchMedia("(prefers-reduced-motion: reduce)");
-const found=(id)=>document.getElementById(id);
-function make(tag,attributes={},...children){const element=document.createElement(tag);
-for(const[name,value]of Object.entries(attributes)){if(typeof value==="function")element.addEventListener(name,value);
-else if(name in element)element[name]=value;
-else element.setAttribute(name,value);}
-element.append(...children);
-return element;}
-function arrange(parent,children){const kept=new Set(children);
-for(const it of[...parent.children])if(!kept.has(it))it.remove();
-const fixed=children.find((element)=>element.parentElement===parent&&element.contains(document.activeElement));
-let next=parent.firstChild;
-for(const it of children){while(it===fixed&&it!==next){const after=next.nextSibling;
-parent.append(next);
-next=after;}
-if(it===next)next=next.nextSibling;
-else parent.insertBefore(it,next);}}
-const isLeft=(elements,{relatedTarget})=>!elements.some((it)=>it.contains(relatedTarget)||it.contains(document.activeElement));
-async function copy(text,button){try{await navigator.clipboard.writeText(text);}catch{const area=make("textarea",{value:text,className:"unseen"});
-button.after(area);
-area.select();
-document.execCommand("copy");
-area.remove();
-button.focus();}
-button.textContent="Copied";
-setTimeout(()=>(button.textContent="Copy"),GLOW);}
-function flash(element){if(!prefersCalm.matches)element.animate([{outline:"3px solid"},{outline:"3px solid transparent"}],FLASH);}
-class View{isStale=false;
-#unconfirmed=0;
-#marker=null;
-constructor(page,win,wid,widget){Object.assign(this,{page,win,wid,widget,key:`${win}.${wid}`,id:`widget-${win}-${wid}`});
-this.mark=make("span",{className:"mark",ariaHidden:"true"});
-this.waits=make("span",{className:"waits",ariaHidden:"true",textContent:"not confirmed",hidden:true});
-this.name=make("span",{dir:"auto"});
-this.after=make("span",{className:"after"});
-this.copy=make("button",{type:"button",className:"quiet",textContent:"Copy",click:()=>copy(copyOf(this.widget),this.copy)});}
-head(caption,...more){return make("div",{className:"caption"},caption,this.mark,this.waits,this.after,...more);}
-remark(words){this.after.textContent=words;
-setTimeout(()=>this.after.textContent===words&&(this.after.textContent=""),REMARK);}
-label(){return make("label",{htmlFor:this.id},this.name);}
-named(){const caption=this.page.captionOf(this.key,this.widget.kind);
-this.name.textContent=caption;
-this.copy.ariaLabel=`Copy ${caption}`;}
-rebind(widget,isSame){this.widget=widget;
-this.isStale=true;
-if(!isSame)this.forgetNames();
-this.named();}
+let D=32,af=65536,ag=1024,aC=48,cM=64,cN=64,bi=256,cO=4294967295;class aD extends Error{constructor(number){super(`fault ${number}`);this.number=number}}
+let c=number=>{throw new aD(number)},j="(0|[1-9][0-9]*)",L="((?:0|[1-9][0-9]*)\\.(?:0|[1-9][0-9]*))",ah="(0|-?[1-9][0-9]*)",ai=`([ -~]{1,${aC}})`,bj="(on|off)",k=s=>new RegExp(`^${s}$`),cP=k(ai),bk=text=>cP.test(text),aE=value=>Number.isInteger(value)&&value>=0&&(value<0xd800||value>0xdfff)&&value<0x110000,bl=(s,text)=>s.exec(text)??c(40),bm=(text,end)=>(text.length<=10&&Number(text)<end?Number(text):c(40)),o=text=>bm(text,2**32),id=text=>bm(text,2**16),aj=text=>(text.length<=11&&Number(text)===(Number(text)|0)?Number(text):c(40)),bn=text=>(aE(o(text))?o(text):c(40)),bo=text=>text==="on";function name(text){text.split(".").forEach(o);return text}
+let bp={hello:[k(j),version=>o(version)===3||c(42)],welcome:[k(`${j} ${j}`),(site,limit)=>({site:o(site),limit:o(limit)})],window:[k(j),it=>({id:id(it)})],text:[k(j),it=>({id:id(it)})],list:[k(j),it=>({id:id(it)})],toggle:[k(`${j} ${bj}`),(it,value)=>({id:id(it),value:bo(value)})],slider:[k(`${j} ${ah} ${ah} ${ah}`),(it,low,high,value)=>({id:id(it),low:aj(low),high:aj(high),value:aj(value)})],char:[k(`${L} ${j}`),(it,value)=>({name:name(it),value:bn(value)})],item:[k(`${L} ${ai}`),(it,value)=>({name:name(it),value})],batch:[k(`${j} ${j} ${j}`),cQ],do:[k(`${j} ${j} (text|list|toggle|slider) (ins|del|rel|set|no)(?: (.*))?`),cR],ack:[k(j),it=>({number:o(it)})],ping:[k(j),it=>({number:o(it)})],pong:[k(j),it=>({number:o(it)})],error:[k(j),it=>({number:o(it)})],ready:[null,()=>({})],bye:[null,()=>({})]},cS={"text ins":[k(`${j} ${L} ${j}`),(place,it,value)=>({place:o(place),name:name(it),value:bn(value)})],"text del":[k(`${j} ${L}`),(place,it)=>({place:o(place),name:name(it)})],"list ins":[k(`${j} ${L} ${ai}`),(place,it,value)=>({place:o(place),name:name(it),value})],"list del":[k(`${j} ${L}`),(place,it)=>({place:o(place),name:name(it)})],"list rel":[k(`${j} ${L} ${ai}`),(place,it,value)=>({place:o(place),name:name(it),value})],"toggle set":[k(bj),value=>({value:bo(value)})],"slider set":[k(ah),value=>({value:aj(value)})]};function cQ(mine,heard,count){let aF={mine:o(mine),heard:o(heard),count:o(count)};return aF.count>=1&&aF.count<=D?aF:c(40)}
+function cR(win,wid,kind,verb,rest){let op={win:id(win),wid:id(wid),kind,verb};if(verb==="no")return rest===undefined?{op}:c(40);let[s,fields]=cS[`${kind} ${verb}`]??c(40);return{op:{...op,...fields(...bl(s,rest??"").slice(1))}}}
+function readLine(line){if(line.length>=bi)c(41);let[word]=line.split(" ",1),[s,fields]=Object.hasOwn(bp,word)?bp[word]:c(40);if(s===null)return line===word?{word}:c(40);return{word,...fields(...bl(s,line.slice(word.length+1)).slice(1))}}
+function cT(op){let words=["do",op.win,op.wid,op.kind,op.verb];if(op.verb==="set")words.push(op.kind==="toggle"?(op.value?"on":"off"):op.value);else if(op.verb!=="no")words.push(op.place,op.name);if(op.verb==="ins"||op.verb==="rel")words.push(op.value);return words.join(" ")}
+class cU{rest="";take(cV){let d=(this.rest+cV).split("\n");this.rest=d.pop();if(this.rest.length<bi)return d;return[...d,this.rest]}}
+let E=(op,place)=>(place===op.place?op:{...op,place:Math.min(place,cO)}),aG=({win,wid,kind})=>({win,wid,kind,verb:"no"});function bq(op,l){if(l.verb==="rel")return op;if(l.verb==="del"){if(op.verb!=="ins"&&op.name===l.name)return aG(op);return l.place<op.place?E(op,op.place-1):op}
+let cW=op.verb==="ins"?l.place<op.place:l.place<=op.place;return cW?E(op,op.place+1):op}
+function cX(r,q){if(r.win!==q.win||r.wid!==q.wid||r.verb==="no"||q.verb==="no")return[r,q];if(r.verb==="set")return[r,aG(q)];if(r.verb==="rel"&&q.verb==="rel")return[r,r.name===q.name?aG(q):q];if(r.verb==="ins"&&q.verb==="ins"&&r.place===q.place)return[r,E(q,q.place+1)];return[bq(r,q),bq(q,r)]}
+function cY(r,q){let ak=[...q],cZ=r.map(op=>{let w=op;for(let i=0;i<ak.length;i++)[w,ak[i]]=cX(w,ak[i]);return w});return[cZ,ak]}
+class br{windows=new Map();#S=null;#D=null;widget(win,wid){return this.windows.get(win)?.get(wid)}
+readLine(line){if(line.word==="window")return this.#cR(line.id);if(line.word==="char"||line.word==="item")return this.#cS(line);if(!this.#S)c(44);let{id,word:kind,...rest}=line;if(kind==="slider"&&(rest.value<rest.low||rest.value>rest.high))c(13);bs(this.#S,id);this.#D=kind==="text"||kind==="list"?{kind,items:[],names:new Set()}:{kind,...rest};return this.#S.set(id,this.#D)}
+#cR(win){bs(this.windows,win);this.#S=new Map();return this.windows.set(win,this.#S)}
+#cS(line){if(this.#D?.kind!==(line.word==="char"?"text":"list"))c(44);if(this.#D.names.has(line.name))c(45);this.#D.names.add(line.name);return this.#D.items.push({name:line.name,value:line.value})}
+applyAll(steps,operation=op=>op,test=()=>{}){let took=[],bt=[],names=new Set();try{for(let step of steps){let op=operation(step);if(op.verb==="ins"&&names.has(op.name))c(23);let left=this.widget(op.win,op.wid)?.items?.[op.place-1]?.name??null,al=this.#aH(op);bt.push(al);if(op.verb==="ins"||op.verb==="del")names.add(op.name);took.push({op,value:al.value,left})}
+test();return took}catch(fault){for(let al of bt.reverse())this.#aH(al);throw fault}}
+#aH(op){if(op.verb==="no")return op;let widget=this.widget(op.win,op.wid);if(widget?.kind!==op.kind)c(23);if(op.verb==="set")return set(widget,op);return op.verb==="ins"?insert(widget,op):change(widget,op)}}
+function bs(taken,id){if(id===0)c(12);if(taken.has(id))c(10);if(taken.size>=cM)c(11)}
+function set(widget,op){if(widget.kind==="slider"&&(op.value<widget.low||op.value>widget.high))c(23);let before=widget.value;widget.value=op.value;return{...op,value:before}}
+function insert({items,names},op){if(op.place>items.length||names.has(op.name))c(23);items.splice(op.place,0,{name:op.name,value:op.value});names.add(op.name);return{...op,verb:"del"}}
+function change({items,names},op){let before=items[op.place];if(before?.name!==op.name)c(23);if(op.verb==="rel"){items[op.place]={name:op.name,value:op.value};return{...op,value:before.value}}
+items.splice(op.place,1);names.delete(op.name);return{...op,verb:"ins",value:before.value}}
+let da=new Set(["window","text","list","toggle","slider","char","item"]);class bu{stage="welcome";board=new br();site=0;limit=0;made=0;heard=0;#ae=[];#bg=0;#aI=0;#aJ=0;#bh=0;#bY=!1;#j=null;#T=[];#aK=null;#an;#d;constructor(send,told=()=>{}){this.#an=send;this.#d=told}
+hear(line){if(this.stage==="stopped")return;this.put();try{this.#cT(readLine(line))}catch(fault){this.stop();throw fault}}
+stop(){this.stage="stopped"}
+ping(){this.#bh+=1;this.#an(`ping ${this.#bh}\n`);return this.#bh}
+bye(){this.put();this.#bY=!0;this.#an("bye\n")}
+get backlog(){return this.#ae.length}
+get sent(){return this.made-(this.#j===null?0:1)}
+edit(commands){this.put();let ops=this.extend(commands);this.put();return ops}
+extend(commands){if(this.stage!=="open")c(25);if(commands.length<1||commands.length>D)c(15);if(this.#j?.length+commands.length>D)this.put();let took=this.#aH(commands),ops=took.map(({op})=>op);if(this.#j===null){this.#ae.push((this.#j=[]));this.made+=1}
+this.#j.push(...ops);this.#d("made",{took,nth:this.made-1});return ops}
+put(){if(this.#j===null)return;let d=[`batch ${this.made - 1} ${this.heard} ${this.#j.length}`,...this.#j.map(cT)];this.#j=null;this.#aI=0;this.#an(`${d.join("\n")}\n`)}
+#aH(commands){let db=this.#aJ;try{return this.board.applyAll(commands,command=>this.#cU(command),()=>this.#cV())}catch(fault){this.#aJ=db;throw fault}}
+#cV(){if(this.#j!==null)return;if(this.#ae.length>=ag)c(7);if(this.made>=this.limit)c(9)}
+#cU({verb,win,wid,place,value,kind}){if(!this.board.windows.has(win))c(1);let widget=this.board.widget(win,wid)??c(2),op={win,wid,kind:widget.kind,verb};dc(widget,verb,value,kind);if(verb==="set")return{...op,value};if(place>widget.items.length-(verb==="ins"?0:1))c(4);if(verb==="ins"){if(widget.items.length>=af)c(6);this.#aJ+=1;return{...op,place,name:`${this.site}.${this.#aJ}`,value}}
+let found={...op,place,name:widget.items[place].name};return verb==="rel"?{...found,value}:found}
+#cT(line){if(this.#aK)return this.#cW(line);if(line.word==="error")c(line.number);if(this.stage==="welcome")return this.#cX(line);return this.stage==="board"?this.#cY(line):this.#cZ(line)}
+#cX({word,site,limit}){if(word!=="welcome")c(44);Object.assign(this,{site,limit,stage:"board"})}
+#cY(line){if(line.word!=="ready"){if(!da.has(line.word))c(44);this.#T.push(line);return}
+for(let it of this.#T)this.board.readLine(it);if(this.limit<1||this.limit>16777216)c(50);if(this.site<1||this.site>65535||this.#T.some(it=>it.name&&this.#bZ(it.name)))c(51);this.#T=[];this.stage="open";this.#d("ready")}
+#cZ(line){switch(line.word){case "batch":
+this.#aK={...line,ops:[]};break;case "ack":
+this.#q(line.number);break;case "pong":
+this.#d("pong",line.number);break;case "bye":
+if(!this.#bY)c(44);this.stop();break;default:
+c(44)}}
+#cW(line){if(line.word!=="do")c(44);let{mine,heard,count,ops}=this.#aK;ops.push(line.op);if(ops.length<count)return;this.#aK=null;this.#da(mine,heard,ops)}
+#da(mine,heard,ops){if(mine!==this.heard)c(20);this.#q(heard);if(ops.some(op=>op.verb==="ins"&&this.#bZ(op.name)))c(22);let comes=ops;this.#ae=this.#ae.map(edit=>{let[w,others]=cY(edit,comes);comes=others;return w});let took=this.board.applyAll(comes);this.heard+=1;this.#db();this.#d("came",{raw:ops,took,heard});for(let op of comes)if(op.verb!=="no")this.#d("changed",op)}
+#db(){this.#aI+=1;if(this.#aI<cN)return;this.#aI=0;this.#an(`ack ${this.heard}\n`)}
+#q(count){if(count<this.#bg||count>this.made)c(21);this.#ae.splice(0,count-this.#bg);this.#bg=count}
+#bZ(dd){return dd.startsWith(`${this.site}.`)}}
+function dc(widget,verb,value,kind){if(verb==="set")return de(widget,value);let am=widget.kind==="text";if(!am&&widget.kind!=="list")c(3);if(verb==="rel"&&am)c(3);if(verb==="ins"&&kind&&kind!==(am?"char":"item"))c(3);if(verb!=="del"&&!(am?aE(value):bk(value)))c(3);return undefined}
+function de(widget,value){let type={toggle:"boolean",slider:"number"}[widget.kind];if(typeof value!==type)c(3);if(widget.kind==="slider"&&(value<widget.low||value>widget.high))c(5)}
+let df=64,dg=60000,dh=90000,di=10000,dj=[500,1000,2000,4000,5000],bv=0.2,dk=1000,bw=32768,dl=86400,dm=2**32,dn=[35,36,40,42],dp=/^link ([0-9a-f]{32}) (0|[1-9]\d{0,4})( kept)?$/,aH=/^(resumed|ended|error|got) (0|[1-9]\d{0,9})$/,fields=(s,line)=>{let found=s.exec(line);return found&&Number(found[2])<dm?found:null};class dq{isCarried=!1;isKept=!1;seconds=0;version;#ca;#m;#aL;#aM;#n;#ao=null;#bi=!1;#K=!1;#r=null;#z=0;#s=[];#G=0;#t=null;#T=null;#af=null;#bj=0;#ap=!1;#bk=0;#aN=0;#bl=0;#bm=Infinity;#bn=[];#U=!1;#bo=0;#cb=-Infinity;#V=null;constructor(connect,does,{version=4,waits=dj,most=Infinity,now=()=>performance.now()}={}){this.#ca=connect;this.#m=does;this.#aL=waits;this.#aM=most;this.#n=now;this.version=version}
+get silence(){return this.#n()-this.#aN}
+open(){clearTimeout(this.#V);this.#V=null;this.#q();this.#K=!1;this.#cb=this.#aN=this.#n();this.#T=new cU();let M=step=>it=>N===this.#t&&step(it),N=this.#ca({opened:M(()=>this.#dc()),came:M(text=>this.#aO(text)),closed:M(()=>this.cut())});this.#t=N}
+openLater(isLong=!1){let F=this.#aL[isLong?this.#aL.length-1:Math.min(this.#bo,this.#aL.length-1)];this.#bo+=1;this.#cc(F*(1-bv+2*bv*Math.random()))}
+#cc(F){clearTimeout(this.#V);this.#V=setTimeout(()=>this.open(),F)}
+hurry(){if(this.#V!==null)this.#cc(Math.max(0,this.#cb+dk-this.#n()))}
+put(text){this.#s.push(...text.split("\n").slice(0,-1));this.#dd()}
+close(){clearTimeout(this.#V);this.#V=null;this.#K=!0;this.#aq();this.#q()}
+tend(){if(this.#t===null)return;let{unsent}=this.#t;if(unsent<this.#bk)this.#aN=this.#n();this.#bk=unsent;if(this.silence>=dh)this.cut();else if(this.version>3&&this.isCarried&&this.#n()-this.#bl>=dg){this.#ap=!0;this.#aq()}}
+#dc(){if(this.version===3)this.#aP(null);else this.#t.send(this.#ao?`resume ${this.#ao} ${this.#z}\n`:"hello 4\n")}
+#aP(X){this.#ag();this.#ao=X;if(X===null)this.#t.send("hello 3\n");this.#m.begins();this.#cd(0)}
+#ag(){this.#ao=null;this.#bi=!1;this.#r=null;this.#z=0;this.#s=[];this.#G=0}
+#cd(written,an=!1){this.#af=written;this.#ap=an;this.#bj=this.#z;this.#bm=this.#bl=this.#n();this.#bk=0;this.isCarried=!0;this.#m.carried();this.#aq()}
+#q(){let N=this.#t;this.#t=null;this.#af=null;this.isCarried=!1;if(this.#n()-this.#bm>=di)this.#bo=0;this.#bm=Infinity;N?.end()}
+cut(){if(this.#t===null)return;let dr=this.isCarried;this.#q();this.#aM-=1;if(this.#K)return;if(this.version===3||this.#aM<1)this.#c();else{this.openLater();if(dr)this.#m.cut()}}
+#c(fault=null,covered=null,goesOn=!1){this.#K=!0;this.#q();this.#ce();let d=covered===null?null:this.#s.slice(covered-this.#G),lost=d&&d.filter(it=>it.startsWith("batch ")).length+Number(d[0]?.startsWith("do ")??!1);this.#ag();this.#m.over({fault,lost,goesOn})}
+#aO(text){this.#aN=this.#n();let N=this.#t;for(let line of this.#T.take(text)){if(N!==this.#t||this.#r!==null)break;if(!this.isCarried)this.#de(line);else if(this.#df(line))this.#bn.push(line)}
+this.#ce();if(N!==this.#t)return;this.#aq();if(this.#r!==null)this.#c(this.#r||null,this.#G,this.#r!==0)}
+#ce(){if(this.#bn.length>0)this.#m.hears(this.#bn.splice(0))}
+#de(line){if(this.#ao)this.#dg(line);else{let[,X,seconds,kept]=fields(dp,line)??[],[,word,number]=fields(aH,line)??[];if(X&&seconds<=dl){this.#aM=Infinity;Object.assign(this,{seconds:Number(seconds),isKept:kept!==undefined});this.#aP(X)}else if(word!=="error")this.cut();else if(Number(number)===42){this.version=3;this.open()}else this.#c(Number(number),0)}}
+#dg(line){let[,word,number]=fields(aH,line)??[],count=Number(number),ao=count>=this.#G&&count<=this.#G+this.#s.length;if(word===undefined||word==="got"||(word==="error"&&!dn.includes(count)))this.cut();else if(word==="resumed"){if(ao)this.#cd(count,!0);else this.#c(36)}else if(!this.#bi){this.#ag();this.cut()}else if(word==="error")this.#c(count);else this.#c(ao?null:35,ao?count:null,ao)}
+#df(line){if(this.version===3)return !0;let[,word,number]=fields(aH,line)??[];if(word==="got")return this.#cf(Number(number));this.#z+=1;this.#bi||=line==="ready";this.#r=word==="error"?Number(number):line==="bye"?0:null;this.#ap||=this.#r!==null;return this.#r===null}
+#cf(count){if(count<this.#G||count>this.#af)this.#c(36);else{this.#s.splice(0,count-this.#G);this.#G=count}
+return !1}
+#dd(){if(!this.#U)queueMicrotask(()=>this.#aq());this.#U=!0}
+#aq(){this.#U=!1;if(!this.isCarried)return;let an=this.version>3&&(this.#ap||this.#z-this.#bj>=df),d=this.#r!==null?[]:this.#s.slice(this.#af-this.#G),text=[...(an?[`got ${this.#z}`]:[]),...d].map(line=>`${line}\n`).join("");if(text==="")return;if(an)[this.#ap,this.#bj]=[!1,this.#z];this.#af+=d.length;this.#bl=this.#n();if(this.version===3)this.#cf(this.#af);for(;text!=="";text=text.slice(bw))this.#t.send(text.slice(0,bw))}}
+let ds=8,dt=16,du=5000,dv=20000,bx=15000,dw=1000,bz=new MessageChannel(),ap=[];bz.port1.onmessage=()=>ap.shift()();function aI(task){ap.push(task);bz.port2.postMessage(null)}
+let dx=O=>({opened,came,closed})=>{let P=new WebSocket(O);P.addEventListener("open",opened);P.addEventListener("message",({data})=>came(data));P.addEventListener("close",closed);return{send:text=>P.readyState===WebSocket.OPEN&&P.send(text),end:()=>P.close(),get unsent(){return P.bufferedAmount}}};class dy{confirmed=0;site=new bu(()=>{});cutAt=null;#d;#k;#W=null;#ar=null;#bp=[];#A=null;#U=!1;#v=null;constructor(O,told){this.#d=told;this.#k=new dq(dx(O),{begins:()=>this.#aP(),hears:d=>this.#aO(d),carried:()=>this.#dh(),cut:()=>this.#cg(),over:it=>this.#aO([],it)});setInterval(()=>this.#di(),du);this.#k.open()}
+get isOpen(){return this.site.stage==="open"}
+get isCarried(){return this.isOpen&&this.#k.isCarried&&this.#W===this.site&&this.#ar===null}
+get isApart(){return this.#W!==this.site}
+get isKept(){return this.#k.isKept}
+get grace(){return this.#k.seconds*1000}
+hurry(isBack=!1){if(isBack&&this.#v!==null&&this.isCarried&&performance.now()-this.#v.at>dw)this.#k.cut();this.#k.hurry()}
+edit(commands){let ops=this.isCarried?this.site.edit(commands):this.site.extend(commands);this.#bq();return ops}
+leave(){this.hasLeft=!0;if(!this.isApart&&this.isOpen){this.site.bye();this.#ar=this.site.made}
+this.#k.close();this.#cg()}
+comeBack(){if(!this.hasLeft)return;this.hasLeft=!1;this.#k.open()}
+#aP(){let site=new bu(text=>site===this.#W&&this.#ar===null&&this.#k.put(text),(what,it)=>this.#dj(site,what,it));this.#W=site;this.#ar=null;this.#bp=[];this.#v=null}
+#dh(){if(!this.isCarried)return;this.site.put();this.cutAt=null;this.#bq();this.#d("carried")}
+#cg(){this.cutAt??=new Date();if(this.isOpen)this.#d("cut")}
+#aO(d,ended=null){this.#bp.push(...d);this.#A??=ended;if(!this.#U)this.#ch()}
+#ch(){let site=this.#W,d=this.#bp,end=performance.now()+ds,count=0;try{while(count<d.length&&(count%dt>0||performance.now()<end))site.hear(d[count++])}catch(fault){if(!(fault instanceof aD))throw fault;this.#k.close();this.#A={fault:d[count-1]==="bye"?null:fault.number,lost:null,goesOn:!1};count=d.length}
+d.splice(0,count);this.#U=d.length>0;if(this.#U)aI(()=>this.#ch());else if(this.#A!==null)this.#H(this.#A);this.#d("heard")}
+#dj(site,what,it){if(what==="ready"){Object.assign(this,{site,confirmed:0,cutAt:null});this.#d(what)}else if(what!=="pong")this.#d(what,it);else if(it===this.#v?.number){this.confirmed=this.#v.made;this.#v=null;this.#d("confirmed");this.#bq()}}
+#bq(){if(this.isCarried&&this.#v===null&&this.confirmed<this.site.made)this.#ci()}
+#ci(){this.#v={number:this.site.ping(),made:this.site.made,at:performance.now()}}
+#di(){this.#k.tend();let{silence}=this.#k;if(!this.isCarried||(this.#v!==null&&performance.now()-this.#v.at>bx)){if(silence>bx)this.#k.cut()}else if(this.#v===null&&silence>dv)this.#ci()}
+#H({fault,lost,goesOn}){let site=this.#W,sent=this.#ar??site?.sent;this.#A=this.#W=this.#v=null;this.cutAt??=new Date();if(this.#k.version===3)this.site.stop();if(this.hasLeft)return;this.#k.openLater(fault===30||fault===31);if(site===this.site)this.#d("ended",{taken:lost===null?null:sent-lost,goesOn});this.#d("lost",fault)}}
+let dz=3,bA=16,dA=500;class dB{#cj;#L=null;#br=0;#as=bA;constructor(views){this.#cj=views}
+soon(){if(this.#L!==null)return;let F=this.#br+this.#as-performance.now();if(F<=0)this.now();else this.#L=setTimeout(()=>this.now(),F)}
+now(){clearTimeout(this.#L);this.#L=null;let bB=[...this.#cj.values()].filter(view=>view.isStale);if(bB.length===0)return;let aJ=performance.now();for(let view of bB)view.update();this.#br=performance.now();requestAnimationFrame(frame=>aI(()=>this.#dk(this.#br-aJ+performance.now()-frame)))}
+#dk(dC){this.#as=Math.min(dA,Math.max(bA,dz*dC))}}
+function dD(board,captionOf){let parts=[];for(let[win,widgets]of board.windows){let caption=captionOf(String(win));parts.push(`${caption}\n${"=".repeat(Array.from(caption).length)}`);for(let[wid,widget]of widgets)parts.push(captionOf(`${win}.${wid}`,widget.kind)+":"+dE(widget))}
+return `${parts.join("\n\n")}\n`}
+function dE(widget){if(widget.kind==="text")return `\n${aq(widget)}`;if(widget.kind==="list")return widget.items.map(({value})=>`\n- ${value}`).join("");return ` ${aK(widget)}`}
+let aq=({items})=>items.map(({value})=>String.fromCodePoint(value)).join(""),aK=({kind,value})=>(kind==="toggle"?(value?"on":"off"):String(value)),bC=widget=>(widget.kind==="text"?aq(widget):widget.items.map(({value})=>value).join("\n"));function dF(board){let d=[];for(let[win,widgets]of board.windows){d.push(`window ${win}`);for(let[wid,widget]of widgets)d.push([widget.kind,wid,...dG(widget)].join(" "))}
+return d.map(line=>`${line}\n`).join("")}
+function dG(widget){if(widget.kind==="text")return[quoted(aq(widget))];if(widget.kind==="list")return widget.items.map(({value})=>quoted(value));return widget.kind==="toggle"?[aK(widget)]:[widget.low,widget.high,widget.value]}
+function quoted(text){let dH=Array.from(text,it=>{if(it==='"'||it==="\\")return `\\${it}`;return it>=" "&&it<="~"?it:`\\u{${it.codePointAt(0).toString(16)}}`});return `"${dH.join("")}"`}
+function dI(board,captionOf){let windows=Array.from(board.windows,([id,widgets])=>({id,caption:captionOf(String(id)),widgets:Array.from(widgets,([wid,widget])=>({id:wid,kind:widget.kind,caption:captionOf(`${id}.${wid}`,widget.kind),...dJ(widget)}))}));return `${JSON.stringify({ windows }, null, 2)}\n`}
+function dJ(widget){if(widget.kind==="text")return{value:aq(widget)};if(widget.kind==="list")return{items:widget.items.map(({value})=>value)};return widget.kind==="toggle"?{value:widget.value}:{low:widget.low,high:widget.high,value:widget.value}}
+let m=({win,wid})=>`${win}.${wid}`;function S(things,m){let ar=new Map();for(let it of things){let key=m(it);if(!ar.has(key))ar.set(key,[]);ar.get(key).push(it)}
+return ar}
+let G=value=>(value===13?"\u240d":value===0?"\u2400":String.fromCodePoint(value));function Q(items){let text="";for(let{value}of items)text+=G(value);return text}
+let dK=text=>Array.from(text,it=>(aE(it.codePointAt(0))?it.codePointAt(0):0xfffd)),dL=code=>code>=0xd800&&code<0xdc00,dM=code=>code>=0xdc00&&code<0xe000;function Y(was,is,cursor=is.length){let aL=Math.min(was.length,is.length),bD=(most,from)=>{let count=from;while(count<most&&was.charCodeAt(was.length-1-count)===is.charCodeAt(is.length-1-count))count+=1;return count},tail=bD(Math.min(aL,is.length-cursor),0),head=0;while(head<aL-tail&&was.charCodeAt(head)===is.charCodeAt(head))head+=1;tail=bD(aL-head,tail);if(head>0&&dL(was.charCodeAt(head-1)))head-=1;if(tail>0&&dM(was.charCodeAt(was.length-tail)))tail-=1;return{head,tail}}
+function t(items,name,near){let from=Math.min(near,items.length);for(let T=0;T<=items.length;T++){if(items[from+T]?.name===name)return from+T;if(items[from-T]?.name===name)return from-T}
+return -1}
+function bE(text){let U=new Map();for(let[,key,quoted]of text.matchAll(/^(\d+(?:\.\d+)?) "(.*)"$/gm)){U.set(key,quoted.replace(/\\u\{(\w{1,6})\}|\\(.)/g,(dN,dO,H)=>H??G(Number.parseInt(dO,16))))}
+return U}
+let x=(count,thing)=>`${count.toLocaleString("en")} ${thing}${count === 1 ? "" : "s"}`,dP={[6]:"A text or a list has at most 65,536 items.",[7]:"Too much waits for the server. Try again in a moment.",[8]:"The server is out of memory.",[9]:"The board takes no more edits. You can still read it.",[30]:"64 others are connected, and no more can be. This page joins when one has left.",[31]:"The server has no number left for a new connection. It has to be started again.",[32]:"The board takes no more edits. You can still read it."},R=number=>dP[number]??`The server and this page did not understand each other (fault ${number}).`,aM=(site,name)=>name.startsWith(`${site}.`);function*itemsOf(board){for(let[win,widgets]of board.windows){for(let[wid,{items}]of widgets)for(let item of items??[])yield[`${win}.${wid} ${item.name}`,item]}}
+function bF(old,now){if(now.site<=old.site)return !1;let names=new Set();for(let[at,{name}]of itemsOf(old.board))if(!aM(0,name))names.add(at);if(names.size===0)return !0;for(let[at]of itemsOf(now.board))if(names.has(at))return !0;return !1}
+function au(edits,site,board){let values=new Map();for(let[at,{name,value}]of itemsOf(board))if(aM(site,name))values.set(at,value);let aN=op=>op.verb==="ins"&&values.get(`${m(op)} ${op.name}`)===op.value;return edits.slice(1+edits.findLastIndex(ops=>ops.some(aN)))}
+function dQ(edits,old,now){let aO=new Map(),dR=op=>{if(!aO.has(m(op)))aO.set(m(op),dS(old.widget(op.win,op.wid),now.widget(op.win,op.wid)));return aO.get(m(op))(op)};return edits.map(ops=>ops.filter(dR))}
+function dS(was,is){if(was.kind!==is?.kind)return()=>!0;if(was.kind==="text")return dT(was,is);if(was.kind!=="list")return()=>was.value!==is.value;let[before,labels]=[was.items.map(({value})=>value),is.items.map(({value})=>value)];if(JSON.stringify(before)===JSON.stringify(labels))return()=>!1;let dU=new Set(was.items.filter(({value})=>!labels.includes(value)).map(({name})=>name));return({verb,name})=>verb==="del"||dU.has(name)}
+function dT(was,is){let[before,shown]=[Q(was.items),Q(is.items)];if(before===shown)return()=>!1;let{head,tail}=Y(before,shown),names=new Set(),offset=0;for(let{name,value}of was.items){if(offset>=head&&offset<before.length-tail)names.add(name);offset+=G(value).length}
+return({verb,name})=>verb==="del"||names.has(name)}
+function bG(edits,board,rests=new Map()){let dV=new Map([...Array.from(rests.keys(),it=>[it,[]]),...S(edits.flat(),m)]),words=new Map();for(let[it,ops]of dV){let found=dW(board.widget(...it.split(".").map(Number)),ops,rests.get(it));if(found!=="")words.set(it,found)}
+return words}
+function dW(widget,ops,job){if(widget.kind==="toggle")return ops.at(-1).value?"on":"off";if(widget.kind==="slider")return String(ops.at(-1).value);let aP=(...verbs)=>new Set(ops.filter(op=>verbs.includes(op.verb)).map(op=>op.name)),made=aP("ins","rel"),w=aP("ins"),v=[...aP("del")].filter(name=>!w.has(name)).length+(job?.deletions??0),d=widget.kind==="list"?widget.items.filter(it=>made.has(it.name)).map(it=>it.value):dX(widget.items,made);if(job?.rest.length>0)d.push((d.pop()??"")+job.rest.map(G).join(""));if(v>0)d.push(`(${x(v, widget.kind === "list" ? "item" : "character")} deleted)`);return d.join("\n")}
+function dX(items,names){let runs=[];items.forEach((item,at)=>{if(!names.has(item.name))return;if(at>0&&names.has(items[at-1].name))runs.at(-1).push(item);else runs.push([item])});return runs.map(Q)}
+let dY=1000,dZ=131072,ea=1000,eb=100,ec=10,bH=4096,ed=8,n=(at,name=at.name)=>(name===undefined?m(at):`${m(at)} ${name}`),Z=({before,after},way)=>(way==="undo"?[after,before]:[before,after]),bI=(op,next,labels)=>
+op.kind==="list"&&op.verb==="del"&&next?.verb==="ins"&&m(op)===m(next)&&labels.includes(next.value),bJ={ins:1,del:-1},aQ=[];class bK{where=0;isAway=!1;isLost=!1;by=null;open=aQ;nth=-1;born=-1;goal=null;heir=this;labels=aQ;constructor({win,wid,kind},name,value){Object.assign(this,{win,wid,kind,name,now:{value,version:0}});this.become(this.now)}
+become(now){this.now=now;if(this.kind==="list")this.labels=[...this.labels.slice(-ed),now.value]}}
+class aR{#w=[];#at=[];#bs=new Set();#u=new Map();#g=new Map();#o=new Set();#X=0;#dl=0;#au=-1;#bt=!1;#ck=bH;get canUndo(){return this.#w.length>0}
+get canRedo(){return this.#at.length>0}
+get how(){return this.#w.at(-1)?.how??null}
+nameOf(at,name){return this.#u.get(n(at,name))?.heir.name??name}
+note({took,nth},how=null,time=0){let step=this.#dm(took,how,time);step.time=time;this.#au=nth;this.#bt=!0;for(let it of this.#at.splice(0))this.#X-=it.records.length;for(let at=0;at<took.length;at++){if(!bI(took[at].op,took[at+1]?.op,[took[at].value]))this.#dn(step,took[at],nth);else this.#do(step,took[at],took[++at],nth)}
+while(this.#w.length>dY||(this.#X>dZ&&this.#w.length>1)){this.#X-=this.#w.shift().records.length}
+this.#ag()}
+end(){this.#bt=!1}
+#dm(took,how,time){let h=this.#w.at(-1),step=typeof how==="string"?this.#dp(h,took,how,time)&&h:how&&this.#w.findLast(it=>it.how===how);if(!step)this.#w.push({records:[],how,time});return step||this.#w.at(-1)}
+#dp(h,took,how,time){if(h?.how!==how||!this.#bt||time-h.time>ea||h.records.length+took.length>eb)return !1;let{kind,thing}=h.records.at(-1),[{op,left}]=took;if(m(op)!==m(thing)||took.some(it=>it.op.verb!==kind))return !1;if(kind==="ins")return left===thing.name&&thing.now.value!==ec;let I=this.#g.get(n(thing));return left===I||op.name===I}
+#dn(step,it,nth){let{op,value}=it,thing=this.#bu(op,op.verb==="ins"?op.value:value);thing.nth=nth;if(op.verb==="ins")thing.born=nth;if(op.verb==="rel"||op.verb==="set")return this.#dq(step,thing,it,nth);let record=this.#bv(step,{kind:op.verb,thing,version:thing.now.version});if(op.verb==="del")this.#cl(thing,it,{record,way:"user"});return record}
+#dq(step,thing,{op},nth){let before=thing.now;thing.become({value:op.value,version:this.#av()});let h=step.records.at(-1),goesOn=op.verb==="set"&&h?.thing===thing&&h.after.version===before.version,record=goesOn?h:this.#bv(step,{kind:op.verb,thing,before});record.after=thing.now;return this.#cm(thing,{nth,record,way:"user"})}
+#do(step,{op,value,left},to,nth){let thing=this.#bu(op,value),before={name:op.name,version:thing.where};this.#g.set(n(op),left);this.#M(thing,to.op.name);Object.assign(thing,{where:this.#av(),nth,born:nth});this.#bv(step,{kind:"mov",thing,before,after:{name:thing.name,version:thing.where}})}
+#bv(step,what){let record={...what,isUndone:!1};step.records.push(record);this.#X+=1;return record}
+#av(){return ++this.#dl}
+#bu(op,value){let id=n(op);if(!this.#u.has(id))this.#u.set(id,new bK(op,op.name,value));return this.#u.get(id)}
+#M(thing,name){thing.name=name;this.#u.set(n(thing,name),thing)}
+#cl(thing,{left},by){this.#g.set(n(thing),left);Object.assign(thing,{isAway:!0,by})}
+#cn(thing,{op}){this.#g.set(n(thing),op.name);this.#M(thing,op.name);Object.assign(thing,{isAway:!1,born:thing.nth})}
+#cm(thing,change){thing.open=[...thing.open.filter(({nth})=>nth>change.nth-ag),change]}
+came({raw,took,heard}){raw.forEach((op,at)=>{if(op.verb==="no"||op.verb==="ins")return;let{op:applied,value,left}=took[at],J=applied.verb==="no",thing=this.#u.get(n(op));if(op.verb==="del"&&!J)this.#g.set(n(op),left);if(bI(op,raw[at+1],thing?.labels??[value]))this.#dr(this.#bu(op,value),raw[at+1].name,J,heard);else if(op.verb==="del")this.#ds(thing,op.name);else if(thing)this.#dt(thing,op.value,J,heard)});this.#ag()}
+#ds(thing,name){if(!thing)return;Object.assign(thing,{isAway:!0,isLost:!0});if(thing.name!==name)this.#o.add(thing)}
+#dr(thing,name,J,heard){if(J&&!thing.isAway)this.#bw(thing);this.#M(thing,name);thing.where=this.#av();if(J||thing.open.some(({nth})=>nth>=heard))this.#o.add(thing)}
+#bw(thing){let{name,now,nth,labels}=thing,copy=Object.assign(new bK(thing,name,now.value),{isAway:!0,isLost:!0,nth,labels,heir:thing});this.#u.set(n(copy),copy);this.#o.add(copy)}
+#dt(thing,value,J,heard){let p={value,version:this.#av()};if(thing.kind==="list"&&value===thing.now.value)this.#o.add(thing);else if(J)this.#du(thing,p,heard);else thing.become(p)}
+#du(thing,p,heard){thing.open=thing.open.filter(({nth})=>nth>=heard);let now=p;for(let{record,way}of thing.open){let[from,to]=Z(record,way);if(way==="user"&&now.version!==to.version)record.before=now;if(way==="user"||now.version===from.version)now=to}
+let aS=now.version!==thing.now.version;thing.become(p);thing.become(now);this.#o.add(thing);if(thing.isAway&&thing.by)this.#dv(thing,thing.by,aS)}
+#dv(thing,{record,way},aS){if(way==="user")record.version=thing.now.version;else if(aS&&!thing.isLost){thing.isAway=!1;record.isUndone=!record.isUndone}}
+rejoin(old,now,taken=Infinity){this.#o.clear();this.end();this.#au=-1;for(let[win,widgets]of old.windows){for(let[wid,{items}]of widgets){let{names}=now.widget(win,wid);items?.forEach(({name},at)=>names.has(name)||this.#g.set(n({win,wid,name}),items[at-1]?.name??null))}}
+for(let[id,thing]of this.#u){let{names}=now.widget(thing.win,thing.wid),[,name]=id.split(" ");if(names?.has(thing.name)||!names?.has(name))continue;if(thing.nth>=taken&&thing.kind==="list"&&!thing.isAway)thing.goal??=thing.name;thing.name=name}
+let e=new bL(now,0);for(let thing of new Set(this.#u.values()))this.#dw(thing,e.valueOf(thing),taken)}
+#dw(thing,found,taken){let change=thing.open.find(({nth})=>nth>=taken),aa=found!==undefined,f=found===thing.now.value,bM=change?found===Z(change.record,change.way)[0].value:f,comes=!aa&&!thing.isAway&&thing.born>=taken,av=aa&&thing.isAway&&thing.nth>=taken&&bM,bN=aa&&!thing.isAway&&!f&&bM,aT=comes||av||bN||thing.goal!==null,isAway=av||!(aa||comes);if(aa&&!(f||av||bN))thing.become({value:found,version:this.#av()});Object.assign(thing,{isLost:isAway&&!av&&(thing.isLost||!thing.isAway),isAway,by:null});Object.assign(thing,{open:aT&&change?[{...change,nth:Infinity}]:aQ,nth:aT?Infinity:-1,born:comes?Infinity:-1});if(aT)this.#o.add(thing)}
+undo(){return this.#co(this.#w,"undo")}
+redo(){return this.#co(this.#at,"redo")}
+#co(steps,way){let step=steps.pop();if(!step)return null;this.end();this.#bs.add(step);return new bO(way==="undo"?step.records.toReversed():[...step.records],{put:(record,e)=>this.#E(record,way,e),made:(record,took,nth)=>this.#Y(record,way,took,nth),end:left=>this.#c(step,steps,way,new Set(left))})}
+#c(step,steps,way,left){if(!this.#bs.delete(step))return;if(left.size>0)steps.push({...step,records:step.records.filter(it=>left.has(it)),how:null});let records=step.records.filter(it=>!left.has(it)),bP=way==="undo",to=bP?this.#at:this.#w;if(records.some(({isUndone})=>isUndone===bP))to.push({...step,records,how:null});else this.#X-=records.length}
+#E(record,way,e){let{kind,thing}=record;if(record.isUndone!==(way==="redo")||thing.isLost)return !0;if(kind==="ins"||kind==="del"){let comes=(kind==="ins")===(way==="redo");if(comes)return!thing.isAway||this.#Z(thing,thing.name,e);if(!thing.isAway&&thing.now.version===record.version)e.delete(thing);return !0}
+let[from,to]=Z(record,way);if(thing.isAway||(kind==="mov"?thing.where:thing.now.version)!==from.version)return !0;if(kind!=="mov")return e.change(thing,to.value);if(e.roomFor(thing)<0)return !1;e.delete(thing);return this.#Z(thing,to.name,e)}
+#Z(thing,name,e){let place=-1;for(let it=name;place<0&&it!==null&&it!==undefined;it=this.#g.get(n(thing,it)))place=e.after(thing,it);return e.insert(thing,Math.max(place,0),name)}
+#Y(record,way,took,nth){let{kind,thing}=record,[it,next]=took;record.isUndone=way==="undo";this.#au=thing.nth=nth;if(kind==="mov")this.#dx(thing,Z(record,way),it,next);else if(it.op.verb==="ins")this.#cn(thing,it);else if(it.op.verb==="del")this.#cl(thing,it,{record,way});else{thing.become(Z(record,way)[1]);this.#cm(thing,{nth,record,way})}}
+#dx(thing,[from,to],{left},{op}){from.name=thing.name;this.#g.set(n(thing),left);this.#g.set(n(thing,to.name),op.name);this.#M(thing,op.name);to.name=op.name;thing.where=to.version}
+mend(){if(this.#o.size===0)return null;return new bO(Array.from(this.#o,thing=>({kind:thing.goal===null?"fix":"mov",thing})),{put:({thing},e)=>this.#dy(thing,e),made:({thing},took,nth)=>this.#dz(thing,took,nth),end:()=>{}})}
+get torn(){return S(this.#o,m)}
+giveUp(board){let left=[...this.#o].filter(({win,wid,isAway})=>!isAway&&board.widget(win,wid).items?.length>=af);for(let thing of left){Object.assign(thing,{isAway:!0,isLost:!0});this.#o.delete(thing)}
+return S(left.map(thing=>[m(thing),thing.now.value]),([key])=>key)}
+#dy(thing,e){let found=e.valueOf(thing);if(found===undefined&&!thing.isAway)return this.#Z(thing,thing.goal??thing.name,e);if(found!==undefined&&thing.isAway)e.delete(thing);else if(thing.goal!==null){if(e.roomFor(thing)<0)return !1;e.delete(thing);return this.#Z(thing,thing.goal,e)}else if(found!==undefined&&found!==thing.now.value)e.change(thing,thing.now.value);else this.#o.delete(thing);return !0}
+#dz(thing,took,nth){this.#au=thing.nth=nth;this.#o.delete(thing);for(let it of thing.open)if(it.nth===Infinity)it.nth=nth;for(let it of took){if(it.op.verb==="del"&&!this.#g.has(n(thing)))this.#g.set(n(thing),it.left);if(it.op.verb!=="ins")continue;if(thing.goal!==null)this.#g.set(n(thing,thing.goal),it.op.name);if(took.length===1)this.#cn(thing,it);else this.#M(thing,it.op.name);Object.assign(thing,{goal:null,born:nth})}}
+#ag(){if(this.#cp<this.#ck)return;let taken=Math.max(-1,this.#au-ag),things=new Set([...this.#u.values()].filter(it=>it.nth>taken||this.#o.has(it))),v=new Set(),follow=(thing,name=thing.name)=>{for(let it=name,id;this.#g.has((id=n(thing,it)))&&!v.has(id);it=this.#g.get(id))v.add(id)};for(let{records}of[...this.#w,...this.#at,...this.#bs]){for(let{kind,thing,before,after}of records){things.add(thing);if(kind==="mov")for(let{name}of[before,after])follow(thing,name)}}
+for(let thing of things)follow(thing);for(let[id,thing]of this.#u)if(!things.has(thing))this.#u.delete(id);for(let id of this.#g.keys())if(!v.has(id))this.#g.delete(id);this.#ck=Math.max(bH,2*this.#cp)}
+get #cp(){return this.#u.size+this.#g.size}}
+class bL{commands=[];things=new Set();#F;#cq=new Map();constructor(board,near){this.#F=board;this.near=near}
+after(at,name=at.name){let mark=this.#cq.get(n(at,name));if(mark!==undefined)return this.#aQ(at,this.commands[mark].place+(this.commands[mark].verb==="ins"?1:0),mark+1);let{items,names}=this.#D(at);if(!names.has(name))return -1;this.near=t(items,name,this.near);return this.#aQ(at,this.near+1,0)}
+#aQ(at,place,from){let ee=(it,I)=>it.win===at.win&&it.wid===at.wid&&it.place<I;return this.commands.slice(from).reduce((I,it)=>(ee(it,I)?I+(bJ[it.verb]??0):I),place)}
+valueOf(thing){let{names,items,value}=this.#D(thing);if(thing.name===undefined)return value;if(!names.has(thing.name))return undefined;this.near=t(items,thing.name,this.near);return items[this.near].value}
+delete(thing){this.#E(thing,{verb:"del",place:this.after(thing)-1},thing.name)}
+roomFor(thing){let ef=this.commands.filter(it=>m(it)===m(thing));return ef.reduce((room,{verb})=>room-(bJ[verb]??0),af-this.#D(thing).items.length)}
+insert(thing,place,name){if(this.roomFor(thing)<1)return !1;this.#E(thing,{verb:"ins",place,value:thing.now.value},name);return !0}
+change(thing,value){if(thing.name===undefined)this.#E(thing,{verb:"set",value});else this.#E(thing,{verb:"rel",place:this.after(thing)-1,value});return !0}
+#E(thing,command,name){if(name!==undefined)this.#cq.set(n(thing,name),this.commands.length);this.things.add(thing);this.commands.push({win:thing.win,wid:thing.wid,...command})}
+#D({win,wid}){return this.#F.widget(win,wid)}}
+class bO{isFull=!1;#ah;#m;#aw=0;#aa={parts:[],at:0};#ai=0;#cr=0;#bx=new Map();#r=null;constructor(ap,does){this.#ah=ap;this.#m=does}
+get left(){return this.#ah.length-this.#aw}
+get isDone(){return this.isFull||this.left===0}
+get key(){return m(this.#ah[0].thing)}
+next(board){let e=new bL(board,this.#ai),parts=[],at=this.#aw;for(;at<this.#ah.length;at++){let task=this.#ah[at],begin=e.commands.length,bQ=e.things.has(task.thing)||begin+(task.kind==="mov"?2:1)>D,bR=bQ||this.#m.put(task,e);this.isFull=!bR&&begin===0;if(bQ||!bR)break;if(e.commands.length>begin)parts.push({task,begin})}
+this.#aa={parts,at};this.#ai=e.near;if(parts.length===0)this.#aR();return e.commands}
+made({took,nth}){let{parts}=this.#aa;parts.forEach(({task,begin},at)=>this.#m.made(task,took.slice(begin,parts[at+1]?.begin),nth));for(let{task}of parts)this.#aS(m(task.thing),task.kind);this.#r=took.at(-1);this.#aR()}
+#aS(key,kind){let it=this.#bx.get(key+kind)??{key,kind,count:0};it.count+=1;this.#bx.set(key+kind,it)}
+#aR(){let{parts,at}=this.#aa;this.#cr+=at-this.#aw-parts.length;this.#aw=at;this.#aa={parts:[],at}}
+finish(){this.#m.end(this.#ah.slice(this.#aw));return{did:[...this.#bx.values()],skipped:this.#cr,isFull:this.isFull,place:this.#r&&eg(this.#r)}}}
+let eg=({op,left})=>({key:m(op),after:op.verb==="del"?left:op.name}),bS=1;function eh(site,edits){let A=edits.map(({ops})=>ops);return{version:bS,site:site.site,edits:`[${edits.map((it) => (it.row ??= ei(it.took)))}]`,widgets:Array.from(new Set(A.flat().map(m)),key=>ej(site.board,...key.split(".").map(Number))),words:[...bG(A,site.board)]}}
+let ei=took=>JSON.stringify(took.map(({op:{win,wid,verb,name,value},value:before,left})=>[win,wid,verb,name,value,before,left]));function ek(row,board){return row.map(([win,wid,verb,name,value,before,left])=>({op:{win,wid,kind:board.widget(win,wid).kind,verb,name:name??undefined,value},value:before,left}))}
+function ej(board,win,wid){let widget=board.widget(win,wid);return{win,wid,kind:widget.kind,runs:widget.items&&el(widget.items),text:widget.kind==="text"?bC(widget):""}}
+function el(items){let runs=[];for(let{name}of items){let[site,number]=name.split(".").map(Number),h=runs.at(-1);if(h?.[0]===site&&h[1]+h[2]===number)h[2]+=1;else runs.push([site,number,1])}
+return runs}
+function em(widgets){let board=new br();for(let{win,wid,kind,runs,text}of widgets){let values=Array.from(text,it=>it.codePointAt(0)),names=runs?.flatMap(([site,first,count])=>Array.from({length:count},(dN,at)=>`${site}.${first + at}`));if(!board.windows.has(win))board.windows.set(win,new Map());board.windows.get(win).set(wid,{kind,items:names?.map((name,at)=>({name,value:values[at]}))})}
+return board}
+function bT(record,site){if(record.version!==bS)return null;let old=em(record.widgets),edits=JSON.parse(record.edits).map(row=>ek(row,old)),A=edits.map(took=>took.map(({op})=>op));if(!en(record,old,A.flat(),site))return null;let undo=new aR();edits.forEach((took,nth)=>undo.note({took,nth},record));undo.rejoin(old,site.board,A.length-au(A,record.site,site.board).length);return undo}
+function en(record,old,ops,{site,board}){let aN=({win,wid,kind})=>board.widget(win,wid)?.kind===kind;if(site<=record.site||!record.widgets.every(aN))return !1;let keys=new Set(record.widgets.map(m)),made=new Set(ops.map(op=>`${m(op)} ${op.name}`)),[was,is]=[old,board].map(it=>new Map(itemsOf(it))),eo=(at,name)=>aM(record.site,name)&&!made.has(at)&&keys.has(at.split(" ")[0]),ep=([at,{name,value}])=>(was.has(at)?(was.get(at).value??value)!==value:eo(at,name)),others=[...was.keys()].filter(at=>!made.has(at)&&!at.includes(" 0."));return(others.length===0||others.some(at=>is.has(at)))&&![...is].some(ep)}
+let aU="records",opened=()=>
+new Promise((aV,aW)=>{let V=indexedDB.open("gidzvruka");V.onupgradeneeded=()=>V.result.createObjectStore(aU,{keyPath:"id"});V.onsuccess=()=>aV(V.result);V.onerror=()=>aW(V.error)});class eq{#by=null;async change(step){try{this.#by??=await opened();let change=this.#by.transaction(aU,"readwrite");step(change.objectStore(aU));await new Promise((aV,aW)=>Object.assign(change,{oncomplete:aV,onabort:()=>aW(change.error)}))}catch(fault){this.#by=null;throw fault}}}
+let aX=200,er=10,es=500,bU="asks",bV="forgets",et="This browser keeps nothing for this page. What waits is gone once you close this tab.",eu="Look at the board, and copy what is missing there.",ev="This can\u2019t be brought in now.";class ew{isKeeping=!1;isRefused=!1;#a;#aT=new eq();#F=location.pathname;#x=`${Date.now()} ${Math.random()}`;#cs=new Set([this.#x]);#N=new Map();#s=new Map();#ax=null;#ct=null;#L=null;#as=aX;#K=!1;constructor(page){this.#a=page;document.addEventListener("input",()=>this.soon())}
+soon(){this.#L??=setTimeout(()=>this.#aU(),this.#as)}
+now(){this.#aU(!0)}
+async #aU(ab=!1){clearTimeout(this.#L);this.#L=null;if(this.#K||this.#a.isJoining)return;let aJ=performance.now(),[before,records]=[this.#s,this.#X(ab)];this.#as=aX+er*(performance.now()-aJ);if(this.#a.untaken.waiting>0&&!records.has(this.#x))this.soon();if(before.size+records.size===0)return;this.#s=records;try{await this.#aT.change(u=>{for(let id of before.keys())if(!records.has(id))u.delete(id);for(let[id,record]of records)if(before.get(id)!==record)u.put(record);u.transaction.commit()});this.#l(!0)}catch{this.#s=new Map([...before,...this.#s]);this.#l(!1,records.size>0)}}
+#l(isKeeping,isRefused=!1){if(this.#K)return;this.isKeeping=isKeeping;if(isRefused===this.isRefused)return;this.isRefused=isRefused;if(isRefused)this.#ct=this.#a.notices.add({words:et});else this.#a.notices.end(this.#ct)}
+#X(ab){let found=Array.from(this.#N,([id,{record}])=>[id,record]),w=this.#dA(ab);return new Map(w===null?found:[[this.#x,w],...found])}
+#dA(ab){let{texts,untaken,link}=this.#a,{site,edits,oldest}=untaken.kept,isKept=edits.length>0&&(ab||!link.isCarried||performance.now()-oldest>=aX);if(!isKept&&texts.length===0)return null;let time=performance.timeOrigin+(edits.at(-1)?.made??performance.now());return{id:this.#x,owner:this.#x,board:this.#F,time,texts,...(isKept&&eh(site,edits))}}
+async open(){for(let[record,from]of await this.#dB().catch(()=>[])){this.#s.set(record.id,record);this.#ay(record,from)}
+this.#aU()}
+async #dB(){this.#ax=new BroadcastChannel(`gidzvruka ${this.#F}`);this.#ax.onmessage=({data})=>this.#d(data);for(let it of[this.#x,bU])this.#ax.postMessage(it);await this.#aT.change(()=>{});this.isKeeping=!0;await new Promise(ex=>setTimeout(ex,es));let bW=[];await this.#aT.change(u=>{u.getAll().onsuccess=({target})=>{for(let it of target.result.filter(({board,owner})=>board===this.#F&&!this.#cs.has(owner))){let record={...it,owner:this.#x};bW.push([record,it.owner]);u.put(record)}}});return bW}
+#d(data){if(data===bU)this.#ax.postMessage(this.#x);else if(data===bV)this.#c();else{this.#cs.add(data);for(let[id,{from,notice}]of this.#N){if(from!==data)continue;this.#N.delete(id);this.#s.delete(id);this.#a.notices.end(notice)}}}
+#ay({texts,...rest},from){let{notices,views}=this.#a;for(let{key,words,text}of texts)notices.add({view:views.get(key),words,text});if(rest.words)this.#bz({...rest,texts:[]},from)}
+#bz(record,from,undo=null){let{notices,link}=this.#a,{site}=link,aY=(undo??bT(record,site))?.torn;if(aY===undefined)return this.#cu(record);if(aY.size===0)return this.#q(record);let words=`${bX(record)}: ${Array.from(aY, ([key, { length }]) => this.#bA(key, length)).join(", ")}.`,text=record.words.map(([key,it])=>`${this.#bB(key)}:\n${it}`).join("\n\n"),notice=notices.add({words,text,isFolded:!0,choices:{"Bring in":()=>this.#dC(record.id),Discard:()=>this.#q(record)}});return this.#N.set(record.id,{record,from,notice,undo,site})}
+#cu(record){let{notices,views}=this.#a;for(let[key,text]of record.words)notices.add({view:views.get(key),words:`${bX(record)}. ${eu}`,text});this.#q(record)}
+#bB(key){return this.#a.captionOf(key,this.#a.views.get(key)?.widget.kind)}
+#bA(key,count){let{kind}=this.#a.views.get(key).widget,unit={text:"character",list:"item"}[kind];return unit?`${x(count, unit)} in ${this.#bB(key)}`:this.#bB(key)}
+#dC(id){let{takingBack,notices,link}=this.#a,{record,from,undo,site}=this.#N.get(id);if(!takingBack.isIdle){notices.add({words:ev});return this.#bz(record,from,undo)}
+let aZ=undo===null?bT(record,link.site):site===link.site?undo:null;if(aZ===null)return this.#cu(record);return takingBack.bringIn(aZ,{},isDone=>(isDone?this.#q(record):this.#bz(record,from,aZ)))}
+#q({id}){this.#N.delete(id);this.#aU(!0)}
+async forget(){this.#ax?.postMessage(bV);this.#c();let ey=({target:{result,source}})=>result.filter(({board})=>board===this.#F).forEach(({id})=>source.delete(id));await this.#aT.change(u=>(u.getAll().onsuccess=ey)).catch(()=>{})}
+#c(){this.#K=this.isRefused=!0;this.isKeeping=!1;for(let{notice}of this.#N.values())this.#a.notices.end(notice);this.#N.clear()}}
+let bX=({time})=>`You wrote this here on ${new Date(time).toLocaleString("en", { weekday: "long", month: "long", day: "numeric" })}, and it was not sent`,bY=1500,ez=600,eA=6000,eB=500,bZ=matchMedia("(prefers-reduced-motion: reduce)"),found=id=>document.getElementById(id);function b(tag,attributes={},...children){let element=document.createElement(tag);for(let[name,value]of Object.entries(attributes)){if(typeof value==="function")element.addEventListener(name,value);else if(name in element)element[name]=value;else element.setAttribute(name,value)}
+element.append(...children);return element}
+function ba(ac,children){let kept=new Set(children);for(let it of[...ac.children])if(!kept.has(it))it.remove();let eC=children.find(element=>element.parentElement===ac&&element.contains(document.activeElement)),next=ac.firstChild;for(let it of children){while(it===eC&&it!==next){let after=next.nextSibling;ac.append(next);next=after}
+if(it===next)next=next.nextSibling;else ac.insertBefore(it,next)}}
+let ca=(elements,{relatedTarget})=>!elements.some(it=>it.contains(relatedTarget)||it.contains(document.activeElement));async function copy(text,button){try{await navigator.clipboard.writeText(text)}catch{let area=b("textarea",{value:text,className:"unseen"});button.after(area);area.select();document.execCommand("copy");area.remove();button.focus()}
+button.textContent="Copied";setTimeout(()=>(button.textContent="Copy"),bY)}
+function cb(element){if(!bZ.matches)element.animate([{outline:"3px solid"},{outline:"3px solid transparent"}],ez)}
+class aw{isStale=!1;#ab=0;#bC=null;constructor(page,win,wid,widget){Object.assign(this,{page,win,wid,widget,key:`${win}.${wid}`,id:`widget-${win}-${wid}`});this.mark=b("span",{className:"mark",ariaHidden:"true"});this.waits=b("span",{className:"waits",ariaHidden:"true",textContent:"not confirmed",hidden:!0});this.name=b("span",{dir:"auto"});this.after=b("span",{className:"after"});this.copy=b("button",{type:"button",className:"quiet",textContent:"Copy",click:()=>copy(bC(this.widget),this.copy)})}
+head(caption,...ad){return b("div",{className:"caption"},caption,this.mark,this.waits,this.after,...ad)}
+remark(words){this.after.textContent=words;setTimeout(()=>this.after.textContent===words&&(this.after.textContent=""),eA)}
+label(){return b("label",{htmlFor:this.id},this.name)}
+named(){let caption=this.page.captionOf(this.key,this.widget.kind);this.name.textContent=caption;this.copy.ariaLabel=`Copy ${caption}`}
+rebind(widget,f){this.widget=widget;this.isStale=!0;if(!f)this.forgetNames();this.named()}
 forgetNames(){}
+nameOf(name){return this.page.nameOf(this,name)}
+goOn(){}
 came(){}
 follow(){}
-tookBack(){this.isStale=true;}
-drops(){return false;}
-reveal(){this.update();
-this.element.scrollIntoView({block:"nearest"});}
+tookBack(){this.isStale=!0}
+drops(){return !1}
+reveal(){this.update();this.element.scrollIntoView({block:"nearest"})}
 confirmed(){}
 hide(){}
 sendDrafts(){}
-get drafts(){return[];}
+get drafts(){return[]}
 close(){}
-edit(commands,how=null){return this.page.edit(this,commands.map((command)=>({...command,win:this.win,wid:this.wid})),how);}
-awaits(more){this.#unconfirmed +=more;
-if(this.#unconfirmed>0)this.#marker??=setTimeout(()=>(this.waits.hidden=false),LATE);
-else{clearTimeout(this.#marker);
-this.#marker=null;
-this.waits.hidden=true;}}
-changed(){this.isStale=true;
-this.isChanged=true;}
-update(){if(!this.isStale||this.isHeld)return;
-this.isStale=false;
-this.draw();
-if(this.isChanged&&!prefersCalm.matches)this.mark.animate([{opacity:1},{opacity:0}],GLOW);
-this.isChanged=false;}}
-const SEEN="gidzvruka seen";
-function openMenu(page,isTelling){const captionOf=(key,kind)=>page.captionOf(key,kind);
-const files={"Download as text":()=>download("board.txt","text/plain",asText(page.board,captionOf)),"Download the printed board":()=>download("board.board","text/plain",asPrinted(page.board)),"Download as JSON":()=>download("board.json","application/json",asJson(page.board,captionOf)),Print:()=>print(),};
-const buttons=Object.entries(files).map(([name,click])=>make("button",{type:"button",textContent:name,click:()=>(found("menu").hidePopover(),click())}));
-const tells=make("input",{type:"checkbox",checked:true,id:"tells",change:()=>isTelling(tells.checked)});
-found("menu-own").append(...buttons,make("p",{className:"check"},tells,make("label",{htmlFor:"tells",textContent:"Say to screen readers what others change"})));
-document.addEventListener("keydown",(event)=>event.key==="?"&&!isTyping(event.target)&&found("menu").showPopover());
-addEventListener("beforeprint",()=>toPaper(page));
-addEventListener("afterprint",()=>document.querySelectorAll("pre.paper").forEach((it)=>it.remove()));
-welcome();}
-const isTyping=(element)=>element.matches("textarea, input:not([type=checkbox], [type=range])");
-function download(name,type,text){const href=URL.createObjectURL(new Blob([text],{type:`${type};charset=utf-8`}));
-make("a",{href,download:name}).click();
-setTimeout(()=>URL.revokeObjectURL(href),60000);}
-function toPaper(page){for(const view of page.views.values())view.area?.after(make("pre",{className:"paper",dir:"auto",textContent:view.area.value}));}
-function welcome(){const seen=(step)=>{try{return step(localStorage);}catch{return null;}};
-found("welcome").hidden=seen((store)=>store.getItem(SEEN))!==null;
-found("welcome-close").addEventListener("click",()=>{found("welcome").hidden=true;
-seen((store)=>store.setItem(SEEN,"yes"));
-found("title").focus();});}
-const KEPT="gidzvruka offers";
-class Held{#held=new Set();
-#told;
-constructor(told){this.#told=told;}
-get count(){return this.#held.size;}
-[Symbol.iterator](){return this.#held.values();}
-hold(it,isHeld){if(this.#held.has(it)===isHeld)return;
-if(isHeld)this.#held.add(it);
-else this.#held.delete(it);
-this.#told();}}
-class Notices extends Held{#place=found("notices");
-#offers=new Map();
-get isOffering(){return this.#offers.size>0||[...this].some((it)=>!it.matches(".notice"));}
-add({view=null,words,text="",choices={}}){const element=make("article",{className:"notice",tabIndex:-1},make("p",{className:"notice-words",role:"alert",textContent:words}));
-const buttons=Object.entries({...choices,Dismiss:()=>{}}).map(([name,click])=>make("button",{type:"button",textContent:name,click:()=>(this.end(element),click())}));
-if(text!==""){const copies=make("button",{type:"button",textContent:"Copy",click:()=>copy(text,copies)});
-element.append(make("textarea",{rows:3,readOnly:true,value:text,ariaLabel:words}));
-buttons.unshift(copies);
-this.#offers.set(element,{key:view?.key??"",words,text});}
-element.append(make("p",{className:"row wraps"},...buttons));
-(view?.element??this.#place).append(element);
-this.hold(element,true);
-this.keep();
-return element;}
-adopt(element){this.#place.append(...element.querySelectorAll(".notice"));}
-show(){const[first]=[...this].sort((one,other)=>(one.compareDocumentPosition(other)&Node.DOCUMENT_POSITION_FOLLOWING?-1:1));
-first?.scrollIntoView({block:"center"});
-first?.focus();}
-keep(more=[]){try{sessionStorage.setItem(KEPT,JSON.stringify([...this.#offers.values(),...more]));}catch{}}
-kept(){try{return JSON.parse(sessionStorage.getItem(KEPT))??[];}catch{return[];}}
-end(element){if(element.contains(document.activeElement))found("title").focus();
-element.remove();
-this.#offers.delete(element);
-this.hold(element,false);
-this.keep();}}
-const CALM=200;
-const SLOW=2000;
-const BETWEEN=5000;
-class Status{isTelling=true;
-#now=null;
-#wasSlow=false;
-#timers=[];
-#said=new Map();
-#sayAt=0;
-#sayer=null;
-tell({stage,words,notices,since=null,slowly=words}){document.body.dataset.stage=stage;
-found("state").hidden=stage==="open"&&notices>0;
-found("notice-count").hidden=notices===0;
-found("notice-count").textContent=counted(notices,"notice");
-found("try-now").hidden=stage!=="lost"&&stage!=="waiting";
-const isSame=since!==null&&this.#now?.since===since;
-this.#now={words,since,slowly};
-if(!isSame)this.#wait();
-if(since===null||performance.now()- since>=CALM)this.#show();}
-#wait(){this.#timers.forEach(clearTimeout);
-const{since}=this.#now;
-this.#timers=since===null?[]:[CALM,SLOW].map((wait)=>setTimeout(()=>this.#show(),Math.ceil(since + wait - performance.now())+ 1));}
-#show(){const{words,since,slowly}=this.#now;
-const isSlow=since!==null&&performance.now()- since>=SLOW;
-if(isSlow||this.#wasSlow)this.announce("edits",isSlow?slowly:words);
-this.#wasSlow=isSlow;
-found("state").textContent=isSlow?slowly:words;}
-announce(about,words){if(about==="changes"&&!this.isTelling)return;
-this.#said.delete(about);
-this.#said.set(about,words);
-this.#sayer??=setTimeout(()=>this.#sayNext(),Math.max(0,this.#sayAt - performance.now()));}
-#sayNext(){this.#sayer=null;
-const[first]=this.#said;
-if(!first)return;
-const[about,words]=first;
-this.#said.delete(about);
-found("news").textContent=words;
-this.#sayAt=performance.now()+ BETWEEN;
-if(this.#said.size>0)this.#sayer=setTimeout(()=>this.#sayNext(),BETWEEN);}
-count(links){found("who").textContent=links>0?`${links} connected`:"";}}
-const MOST_STEPS=1000;
-const MOST_RECORDS=131072;
-const PAUSE=1000;
-const LONGEST_RUN=100;
-const LINE_FEED=10;
-const FEWEST_NAMES=4096;
-const MOST_LABELS=8;
-const keyOf=({win,wid})=>`${win}.${wid}`;
-const idOf=(at,name=at.name)=>(name===undefined?keyOf(at):`${keyOf(at)} ${name}`);
-const sidesOf=({before,after},way)=>(way==="undo"?[after,before]:[before,after]);
-const isMove=(op,next,labels)=>
-op.kind==="list"&&op.verb==="del"&&next?.verb==="ins"&&keyOf(op)===keyOf(next)&&labels.includes(next.value);
-const GROWTH={ins:1,del:-1};
-const NONE=[];
-class Thing{where=0;
-isAway=false;
-isLost=false;
-by=null;
-open=NONE;
-nth=-1;
-heir=this;
-labels=NONE;
-constructor({win,wid,kind},name,value){Object.assign(this,{win,wid,kind,name,now:{value,version:0}});
-this.become(this.now);}
-become(now){this.now=now;
-if(this.kind==="list")this.labels=[...this.labels.slice(-MOST_LABELS),now.value];}}
-class Undo{#done=[];
-#undone=[];
-#playing=new Set();
-#things=new Map();
-#gone=new Map();
-#torn=new Set();
-#records=0;
-#versions=0;
-#nth=-1;
-#isTyping=false;
-#mostNames=FEWEST_NAMES;
-get canUndo(){return this.#done.length>0;}
-get canRedo(){return this.#undone.length>0;}
-get how(){return this.#done.at(-1)?.how??null;}
-nameOf(at,name){return this.#things.get(idOf(at,name))?.heir.name??name;}
-note({took,nth},how=null,time=0){const step=this.#stepOf(took,how,time);
-step.time=time;
-this.#nth=nth;
-this.#isTyping=true;
-for(const it of this.#undone.splice(0))this.#records -=it.records.length;
-for(let at=0;at<took.length;at++){if(!isMove(took[at].op,took[at + 1]?.op,[took[at].value]))this.#record(step,took[at],nth);
-else this.#recordMove(step,took[at],took[++at],nth);}
-while(this.#done.length>MOST_STEPS||(this.#records>MOST_RECORDS&&this.#done.length>1)){this.#records -=this.#done.shift().records.length;}
-this.#forget();}
-end(){this.#isTyping=false;}
-#stepOf(took,how,time){const last=this.#done.at(-1);
-const step=typeof how==="string"?this.#goesOn(last,took,how,time)&&last:how&&this.#done.findLast((it)=>it.how===how);
-if(!step)this.#done.push({records:[],how,time});
-return step||this.#done.at(-1);}
-#goesOn(last,took,how,time){if(last?.how!==how||!this.#isTyping||time - last.time>PAUSE||last.records.length + took.length>LONGEST_RUN)return false;
-const{kind,thing}=last.records.at(-1);
-const[{op,left}]=took;
-if(keyOf(op)!==keyOf(thing)||took.some((it)=>it.op.verb!==kind))return false;
-if(kind==="ins")return left===thing.name&&thing.now.value!==LINE_FEED;
-const gap=this.#gone.get(idOf(thing));
-return left===gap||op.name===gap;}
-#record(step,it,nth){const{op,value}=it;
-const thing=this.#thingOf(op,op.verb==="ins"?op.value:value);
-thing.nth=nth;
-if(op.verb==="rel"||op.verb==="set")return this.#recordValue(step,thing,it,nth);
-const record=this.#add(step,{kind:op.verb,thing,version:thing.now.version});
-if(op.verb==="del")this.#takeAway(thing,it,{record,way:"user"});
-return record;}
-#recordValue(step,thing,{op},nth){const before=thing.now;
-thing.become({value:op.value,version:this.#newVersion()});
-const last=step.records.at(-1);
-const goesOn=op.verb==="set"&&last?.thing===thing&&last.after.version===before.version;
-const record=goesOn?last:this.#add(step,{kind:op.verb,thing,before});
-record.after=thing.now;
-return this.#await(thing,{nth,record,way:"user"});}
-#recordMove(step,{op,value,left},to,nth){const thing=this.#thingOf(op,value);
-const before={name:op.name,version:thing.where};
-this.#gone.set(idOf(op),left);
-this.#rename(thing,to.op.name);
-Object.assign(thing,{where:this.#newVersion(),nth});
-this.#add(step,{kind:"mov",thing,before,after:{name:thing.name,version:thing.where}});}
-#add(step,what){const record={...what,isUndone:false};
-step.records.push(record);
-this.#records +=1;
-return record;}
-#newVersion(){return ++this.#versions;}
-#thingOf(op,value){const id=idOf(op);
-if(!this.#things.has(id))this.#things.set(id,new Thing(op,op.name,value));
-return this.#things.get(id);}
-#rename(thing,name){thing.name=name;
-this.#things.set(idOf(thing,name),thing);}
-#takeAway(thing,{left},by){this.#gone.set(idOf(thing),left);
-Object.assign(thing,{isAway:true,by});}
-#bringBack(thing,{op}){this.#gone.set(idOf(thing),op.name);
-this.#rename(thing,op.name);
-thing.isAway=false;}
-#await(thing,change){thing.open=[...thing.open.filter(({nth})=>nth>change.nth - MOST_WAITING),change];}
-came({raw,took,heard}){raw.forEach((op,at)=>{if(op.verb==="no"||op.verb==="ins")return;
-const{op:applied,value,left}=took[at];
-const isVoid=applied.verb==="no";
-const thing=this.#things.get(idOf(op));
-if(op.verb==="del"&&!isVoid)this.#gone.set(idOf(op),left);
-if(isMove(op,raw[at + 1],thing?.labels??[value]))this.#theyMove(this.#thingOf(op,value),raw[at + 1].name,isVoid,heard);
-else if(op.verb==="del")this.#theyDelete(thing,op.name);
-else if(thing)this.#theyChange(thing,op.value,isVoid,heard);});
-this.#forget();}
-#theyDelete(thing,name){if(!thing)return;
-Object.assign(thing,{isAway:true,isLost:true});
-if(thing.name!==name)this.#torn.add(thing);}
-#theyMove(thing,name,isVoid,heard){if(isVoid&&!thing.isAway)this.#giveUp(thing);
-this.#rename(thing,name);
-thing.where=this.#newVersion();
-if(isVoid||thing.open.some(({nth})=>nth>=heard))this.#torn.add(thing);}
-#giveUp(thing){const{name,now,nth,labels}=thing;
-const copy=Object.assign(new Thing(thing,name,now.value),{isAway:true,isLost:true,nth,labels,heir:thing});
-this.#things.set(idOf(copy),copy);
-this.#torn.add(copy);}
-#theyChange(thing,value,isVoid,heard){const theirs={value,version:this.#newVersion()};
-if(thing.kind==="list"&&value===thing.now.value)this.#torn.add(thing);
-else if(isVoid)this.#slip(thing,theirs,heard);
-else thing.become(theirs);}
-#slip(thing,theirs,heard){thing.open=thing.open.filter(({nth})=>nth>=heard);
-let now=theirs;
-for(const{record,way}of thing.open){const[from,to]=sidesOf(record,way);
-if(way==="user"&&now.version!==to.version)record.before=now;
-if(way==="user"||now.version===from.version)now=to;}
-const isOther=now.version!==thing.now.version;
-thing.become(theirs);
-thing.become(now);
-this.#torn.add(thing);
-if(thing.isAway&&thing.by)this.#slipUnder(thing,thing.by,isOther);}
-#slipUnder(thing,{record,way},isOther){if(way==="user")record.version=thing.now.version;
-else if(isOther&&!thing.isLost){thing.isAway=false;
-record.isUndone=!record.isUndone;}}
-rejoin(old,now){this.#torn.clear();
-this.end();
-this.#nth=-1;
-for(const[win,widgets]of old.windows){for(const[wid,{items}]of widgets){const{names}=now.widget(win,wid);
-items?.forEach(({name},at)=>names.has(name)||this.#gone.set(idOf({win,wid,name}),items[at - 1]?.name??null));}}
-for(const[id,thing]of this.#things){const[,name]=id.split(" ");
-if(now.widget(thing.win,thing.wid).names?.has(name))thing.name=name;}
-const draft=new Draft(now,0);
-for(const thing of new Set(this.#things.values())){const found=draft.valueOf(thing);
-const isAway=found===undefined;
-Object.assign(thing,{open:NONE,by:null,nth:-1,isAway,isLost:isAway&&(thing.isLost||!thing.isAway)});
-if(!isAway&&found!==thing.now.value)thing.become({value:found,version:this.#newVersion()});}}
-undo(){return this.#plan(this.#done,"undo");}
-redo(){return this.#plan(this.#undone,"redo");}
-#plan(steps,way){const step=steps.pop();
-if(!step)return null;
-this.end();
-this.#playing.add(step);
-return new Plan(way==="undo"?step.records.toReversed():[...step.records],{put:(record,draft)=>this.#put(record,way,draft),made:(record,took,nth)=>this.#made(record,way,took,nth),end:(left)=>this.#end(step,steps,way,new Set(left)),});}
-#end(step,steps,way,left){if(!this.#playing.delete(step))return;
-if(left.size>0)steps.push({...step,records:step.records.filter((it)=>left.has(it)),how:null});
-const records=step.records.filter((it)=>!left.has(it));
-const isUndo=way==="undo";
-const to=isUndo?this.#undone:this.#done;
-if(records.some(({isUndone})=>isUndone===isUndo))to.push({...step,records,how:null});
-else this.#records -=records.length;}
-#put(record,way,draft){const{kind,thing}=record;
-if(record.isUndone!==(way==="redo")||thing.isLost)return true;
-if(kind==="ins"||kind==="del"){const comes=(kind==="ins")===(way==="redo");
-if(comes)return!thing.isAway||this.#insert(thing,thing.name,draft);
-if(!thing.isAway&&thing.now.version===record.version)draft.delete(thing);
-return true;}
-const[from,to]=sidesOf(record,way);
-if(thing.isAway||(kind==="mov"?thing.where:thing.now.version)!==from.version)return true;
-if(kind!=="mov")return draft.change(thing,to.value);
-if(draft.roomFor(thing)<0)return false;
-draft.delete(thing);
-return this.#insert(thing,to.name,draft);}
-#insert(thing,name,draft){let place=-1;
-for(let it=name;place<0&&it!==null&&it!==undefined;it=this.#gone.get(idOf(thing,it)))place=draft.after(thing,it);
-return draft.insert(thing,Math.max(place,0),name);}
-#made(record,way,took,nth){const{kind,thing}=record;
-const[it,next]=took;
-record.isUndone=way==="undo";
-this.#nth=thing.nth=nth;
-if(kind==="mov")this.#moveBack(thing,sidesOf(record,way),it,next);
-else if(it.op.verb==="ins")this.#bringBack(thing,it);
-else if(it.op.verb==="del")this.#takeAway(thing,it,{record,way});
-else{thing.become(sidesOf(record,way)[1]);
-this.#await(thing,{nth,record,way});}}
-#moveBack(thing,[from,to],{left},{op}){from.name=thing.name;
-this.#gone.set(idOf(thing),left);
-this.#gone.set(idOf(thing,to.name),op.name);
-this.#rename(thing,op.name);
-to.name=op.name;
-thing.where=to.version;}
-mend(){if(this.#torn.size===0)return null;
-return new Plan(Array.from(this.#torn,(thing)=>({kind:"fix",thing})),{put:({thing},draft)=>this.#fix(thing,draft),made:({thing},[it],nth)=>this.#fixed(thing,it,nth),end:()=>{},});}
-#fix(thing,draft){const found=draft.valueOf(thing);
-if(found===undefined&&!thing.isAway)return this.#insert(thing,thing.name,draft);
-if(found!==undefined&&thing.isAway)draft.delete(thing);
-else if(found!==undefined&&found!==thing.now.value)draft.change(thing,thing.now.value);
-else this.#torn.delete(thing);
-return true;}
-#fixed(thing,it,nth){this.#nth=thing.nth=nth;
-this.#torn.delete(thing);
-if(it.op.verb==="ins")this.#bringBack(thing,it);
-if(it.op.verb==="del")this.#gone.set(idOf(thing),it.left);}
-#forget(){if(this.#names<this.#mostNames)return;
-const taken=Math.max(-1,this.#nth - MOST_WAITING);
-const things=new Set([...this.#things.values()].filter((it)=>it.nth>taken||this.#torn.has(it)));
-const gone=new Set();
-const follow=(thing,name=thing.name)=>{for(let it=name,id;this.#gone.has((id=idOf(thing,it)))&&!gone.has(id);it=this.#gone.get(id))gone.add(id);};
-for(const{records}of[...this.#done,...this.#undone,...this.#playing]){for(const{kind,thing,before,after}of records){things.add(thing);
-if(kind==="mov")for(const{name}of[before,after])follow(thing,name);}}
-for(const thing of things)follow(thing);
-for(const[id,thing]of this.#things)if(!things.has(thing))this.#things.delete(id);
-for(const id of this.#gone.keys())if(!gone.has(id))this.#gone.delete(id);
-this.#mostNames=Math.max(FEWEST_NAMES,2*this.#names);}
-get #names(){return this.#things.size + this.#gone.size;}}
-class Draft{commands=[];
-things=new Set();
-#board;
-#marks=new Map();
-constructor(board,near){this.#board=board;
-this.near=near;}
-after(at,name=at.name){const mark=this.#marks.get(idOf(at,name));
-if(mark!==undefined)return this.#moved(at,this.commands[mark].place +(this.commands[mark].verb==="ins"?1:0),mark + 1);
-const{items,names}=this.#widget(at);
-if(!names.has(name))return -1;
-this.near=placeOf(items,name,this.near);
-return this.#moved(at,this.near + 1,0);}
-#moved(at,place,from){const isBelow=(it,gap)=>it.win===at.win&&it.wid===at.wid&&it.place<gap;
-return this.commands.slice(from).reduce((gap,it)=>(isBelow(it,gap)?gap +(GROWTH[it.verb]??0):gap),place);}
-valueOf(thing){const{names,items,value}=this.#widget(thing);
-if(thing.name===undefined)return value;
-if(!names.has(thing.name))return undefined;
-this.near=placeOf(items,thing.name,this.near);
-return items[this.near].value;}
-delete(thing){this.#put(thing,{verb:"del",place:this.after(thing)- 1},thing.name);}
-roomFor(thing){const here=this.commands.filter((it)=>keyOf(it)===keyOf(thing));
-return here.reduce((room,{verb})=>room -(GROWTH[verb]??0),MOST_ITEMS - this.#widget(thing).items.length);}
-insert(thing,place,name){if(this.roomFor(thing)<1)return false;
-this.#put(thing,{verb:"ins",place,value:thing.now.value},name);
-return true;}
-change(thing,value){if(thing.name===undefined)this.#put(thing,{verb:"set",value});
-else this.#put(thing,{verb:"rel",place:this.after(thing)- 1,value});
-return true;}
-#put(thing,command,name){if(name!==undefined)this.#marks.set(idOf(thing,name),this.commands.length);
-this.things.add(thing);
-this.commands.push({win:thing.win,wid:thing.wid,...command});}
-#widget({win,wid}){return this.#board.widget(win,wid);}}
-class Plan{isFull=false;
-#tasks;
-#does;
-#at=0;
-#next={parts:[],at:0};
-#near=0;
-#skipped=0;
-#counts=new Map();
-#last=null;
-constructor(tasks,does){this.#tasks=tasks;
-this.#does=does;}
-get left(){return this.#tasks.length - this.#at;}
-get isDone(){return this.isFull||this.left===0;}
-get key(){return keyOf(this.#tasks[0].thing);}
-next(board){const draft=new Draft(board,this.#near);
-const parts=[];
-let at=this.#at;
-for(;at<this.#tasks.length;at++){const task=this.#tasks[at];
-const begin=draft.commands.length;
-const isLater=draft.things.has(task.thing)||begin +(task.kind==="mov"?2:1)>MOST_OPERATIONS;
-const hasRoom=isLater||this.#does.put(task,draft);
-this.isFull=!hasRoom&&begin===0;
-if(isLater||!hasRoom)break;
-if(draft.commands.length>begin)parts.push({task,begin});}
-this.#next={parts,at};
-this.#near=draft.near;
-if(parts.length===0)this.#goOn();
-return draft.commands;}
-made({took,nth}){const{parts}=this.#next;
-parts.forEach(({task,begin},at)=>this.#does.made(task,took.slice(begin,parts[at + 1]?.begin),nth));
-for(const{task}of parts)this.#count(keyOf(task.thing),task.kind);
-this.#last=took.at(-1);
-this.#goOn();}
-#count(key,kind){const it=this.#counts.get(key + kind)??{key,kind,count:0};
-it.count +=1;
-this.#counts.set(key + kind,it);}
-#goOn(){const{parts,at}=this.#next;
-this.#skipped +=at - this.#at - parts.length;
-this.#at=at;
-this.#next={parts:[],at};}
-finish(){this.#does.end(this.#tasks.slice(this.#at));
-return{did:[...this.#counts.values()],skipped:this.#skipped,isFull:this.isFull,place:this.#last&&placeOn(this.#last)};}}
-const placeOn=({op,left})=>({key:keyOf(op),after:op.verb==="del"?left:op.name});
-const NO_STEP=Symbol("no step");
-const KEYS={z:"undo",y:"redo"};
-const MENUS={historyUndo:"undo",historyRedo:"redo"};
-const DONE={undo:"Undone",redo:"Done again"};
-const NOTHING={undo:"There is nothing to undo",redo:"There is nothing to do again"};
-const RESTARTED="The server was started again, so there is nothing to undo";
-const OFFLINE="Undo works again once the link is back";
-const OTHERS="Others have changed this since";
-const NO_ROOM="There was no room for the rest";
-const UNITS={ins:"item",del:"item",rel:"label",mov:"move"};
-class Playback{how=NO_STEP;
-rest=[];
-#board;
-#does;
-constructor(way,plan,view,board,does){Object.assign(this,{way,plan,view});
-this.#board=board;
-this.#does=does;}
-get isDone(){return this.plan.isDone;}
-get left(){return this.plan.left;}
-next(){return this.plan.next(this.#board);}
-made(ops){if(ops.length>0)this.#does.made(this.plan,ops);}
+edit(commands,how=null){return this.page.edit(this,commands.map(command=>({...command,win:this.win,wid:this.wid})),how)}
+awaits(ad){this.#ab+=ad;if(this.#ab>0)this.#bC??=setTimeout(()=>(this.waits.hidden=!1),eB);else{clearTimeout(this.#bC);this.#bC=null;this.waits.hidden=!0}}
+changed(){this.isStale=!0;this.isChanged=!0}
+update(){if(!this.isStale||this.isHeld||this.page.isJoining)return;this.isStale=!1;this.draw();if(this.isChanged&&!bZ.matches)this.mark.animate([{opacity:1},{opacity:0}],bY);this.isChanged=!1}}
+let cc="gidzvruka seen";function eD(page,isTelling){let captionOf=(key,kind)=>page.captionOf(key,kind),eE={"Download as text":()=>download("board.txt","text/plain",dD(page.board,captionOf)),"Download the printed board":()=>download("board.board","text/plain",dF(page.board)),"Download as JSON":()=>download("board.json","application/json",dI(page.board,captionOf)),Print:()=>print(),"Forget this board on this device":()=>page.keeping.forget()},W=Object.entries(eE).map(([name,click])=>b("button",{type:"button",textContent:name,click:()=>(found("menu").hidePopover(),click())})),cd=b("input",{type:"checkbox",checked:!0,id:"tells",change:()=>isTelling(cd.checked)});found("menu-own").append(...W,b("p",{className:"check"},cd,b("label",{htmlFor:"tells",textContent:"Say to screen readers what others change"})));document.addEventListener("keydown",a=>a.key==="?"&&!eF(a.target)&&found("menu").showPopover());addEventListener("beforeprint",()=>eG(page));addEventListener("afterprint",()=>document.querySelectorAll("pre.paper").forEach(it=>it.remove()));welcome()}
+let eF=element=>element.matches("textarea, input:not([type=checkbox], [type=range])");function download(name,type,text){let href=URL.createObjectURL(new Blob([text],{type:`${type};charset=utf-8`}));b("a",{href,download:name}).click();setTimeout(()=>URL.revokeObjectURL(href),60000)}
+function eG(page){for(let view of page.views.values())view.area?.after(b("pre",{className:"paper",dir:"auto",textContent:view.area.value}))}
+function welcome(){let ce=step=>{try{return step(localStorage)}catch{return null}};found("welcome").hidden=ce(u=>u.getItem(cc))!==null;found("welcome-close").addEventListener("click",()=>{found("welcome").hidden=!0;ce(u=>u.setItem(cc,"yes"));found("title").focus()})}
+class cf{#j=new Set();#d;constructor(told){this.#d=told}
+get count(){return this.#j.size}
+[Symbol.iterator](){return this.#j.values()}
+hold(it,isHeld){if(this.#j.has(it)===isHeld)return;if(isHeld)this.#j.add(it);else this.#j.delete(it);this.#d()}}
+class eH extends cf{#O=found("notices");#B=new Map();get isOffering(){return this.#B.size>0||[...this].some(it=>!it.matches(".notice"))}
+add({view=null,words,text="",choices={},isFolded=!1}){let element=b("article",{className:"notice",tabIndex:-1},b("p",{className:"notice-words",role:"alert",textContent:words})),W=Object.entries(isFolded?choices:{...choices,Dismiss:()=>{}}).map(([name,click])=>b("button",{type:"button",textContent:name,click:()=>(this.end(element),click())}));if(text!==""){let cg=b("button",{type:"button",textContent:"Copy",click:()=>copy(text,cg)}),area=b("textarea",{rows:3,readOnly:!0,value:text,ariaLabel:words});element.append(isFolded?b("details",{},b("summary",{textContent:"Show"}),area):area);W.splice(-1,0,cg);if(!isFolded)this.#B.set(element,{key:view?.key??"",words,text})}
+element.append(b("p",{className:"row wraps"},...W));(view?.element??this.#O).append(element);this.hold(element,!0);return element}
+adopt(element){this.#O.append(...element.querySelectorAll(".notice"))}
+show(){let[first]=[...this].sort((B,l)=>(B.compareDocumentPosition(l)&Node.DOCUMENT_POSITION_FOLLOWING?-1:1));first?.scrollIntoView({block:"center"});first?.focus()}
+get offers(){return[...this.#B.values()]}
+end(element){if(element.contains(document.activeElement))found("title").focus();element.remove();this.#B.delete(element);this.hold(element,!1)}}
+let ch=200,ci=2000,cj=5000;class eI{isTelling=!0;#n=null;#cv=!1;#cw=[];#az=new Map();#cx=0;#bD=null;tell({stage,words,notices,since=null,slowly=words}){document.body.dataset.stage=stage;found("state").hidden=stage==="open"&&notices>0;found("notice-count").hidden=notices===0;found("notice-count").textContent=x(notices,"notice");found("try-now").hidden=!["lost","waiting","offline"].includes(stage);let f=since!==null&&this.#n?.since===since;this.#n={words,since,slowly};if(!f)this.#dD();if(since===null||performance.now()-since>=ch)this.#aA()}
+#dD(){this.#cw.forEach(clearTimeout);let{since}=this.#n;this.#cw=since===null?[]:[ch,ci].map(F=>setTimeout(()=>this.#aA(),Math.ceil(since+F-performance.now())+1))}
+#aA(){let{words,since,slowly}=this.#n,ax=since!==null&&performance.now()-since>=ci;if(ax||this.#cv)this.announce("edits",ax?slowly:words);this.#cv=ax;found("state").textContent=ax?slowly:words}
+announce(about,words){if(about==="changes"&&!this.isTelling)return;this.#az.delete(about);this.#az.set(about,words);this.#bD??=setTimeout(()=>this.#cy(),Math.max(0,this.#cx-performance.now()))}
+#cy(){this.#bD=null;let[first]=this.#az;if(!first)return;let[about,words]=first;this.#az.delete(about);found("news").textContent=words;this.#cx=performance.now()+cj;if(this.#az.size>0)this.#bD=setTimeout(()=>this.#cy(),cj)}
+count(ck){found("who").textContent=ck>0?`${ck} connected`:""}}
+let ay=Symbol("no step"),eJ={z:"undo",y:"redo"},eK={historyUndo:"undo",historyRedo:"redo"},eL={undo:"Undone",redo:"Done again"},bb={undo:"There is nothing to undo",redo:"There is nothing to do again"},eM="The server was started again, so there is nothing to undo",eN="Undo works again once the link is back",eO="Others have changed this since",eP="There was no room for the rest",eQ={ins:"item",del:"item",rel:"label",mov:"move"};class eR{how=ay;rest=[];isFirst=!1;#F;#m;constructor(way,plan,view,board,does){Object.assign(this,{way,plan,view});this.#F=board;this.#m=does}
+get isDone(){return this.plan.isDone}
+get left(){return this.plan.left}
+next(){return this.plan.next(this.#F)}
+made(ops){if(ops.length>0)this.#m.made(ops)}
 show(){}
-end(){this.#does.ended(this);}}
-class TakingBack{drag=null;
-#page;
-#undo=new Undo();
-#made=null;
-#job=null;
-#nothing=NOTHING.undo;
-constructor(page){this.#page=page;
-document.addEventListener("keydown",(event)=>this.#key(event));
-document.addEventListener("beforeinput",(event)=>this.#menu(event));
-for(const kind of["pointerdown","focusout"])document.addEventListener(kind,()=>this.#undo.end());
-document.addEventListener("dragstart",()=>(this.drag={}));
-document.addEventListener("dragend",()=>(this.drag=null));
-for(const way of["undo","redo"]){found(way).addEventListener("mousedown",(event)=>event.preventDefault());
-found(way).addEventListener("click",()=>this.#act(way));}}
-made(it){this.#made=it;}
-note(how){if(how===NO_STEP)return;
-this.#undo.note(this.#made,how,performance.now());
-this.#nothing=NOTHING.undo;
-this.tell();}
-came(it){this.#undo.came(it);}
-nameOf(view,name){return this.#undo.nameOf(view,name);}
-mend(){const plan=this.#page.isReady&&this.#undo.mend();
-if(!plan)return;
-while(!plan.isDone){const commands=plan.next(this.#page.board);
-const ops=commands.length>0?this.#page.edit(this.#viewOf(commands[0]),commands,NO_STEP):[];
-if(ops===null)return;
-if(ops.length>0)plan.made(this.#made);
-for(const view of this.#viewsOf(ops).keys()){view.isStale=true;
-view.follow();}}
-this.#page.drawSoon();}
-joined(old,isSame){if(isSame)this.#undo.rejoin(old,this.#page.board);
-else{if(this.#undo.canUndo||this.#undo.canRedo)this.#nothing=RESTARTED;
-this.#undo=new Undo();}
-this.tell();}
-lost(){this.#page.stop(this.#job);}
-#key(event){if(/^(Arrow|Page|Home|End)/.test(event.key))this.#undo.end();
-if(event.isComposing||event.altKey||!(event.ctrlKey||event.metaKey))return;
-const letter=/^[a-z]$/i.test(event.key)?event.key.toLowerCase():event.code.slice(3).toLowerCase();
-const way=letter==="z"&&event.shiftKey?"redo":KEYS[letter];
-if(way===undefined)return;
-event.preventDefault();
-this.#act(way);}
-#menu(event){const way=MENUS[event.inputType];
-if(way===undefined)return;
-event.preventDefault();
-if(!event.isComposing)this.#act(way);}
-tell(){const isIdle=this.#page.takesEdits&&this.#job===null;
-found("undo").ariaDisabled=String(!(isIdle&&this.#undo.canUndo));
-found("redo").ariaDisabled=String(!(isIdle&&this.#undo.canRedo));}
-#act(way){const{activeElement}=document;
-const at=[...this.#page.views.values()].find(({element})=>element.contains(activeElement));
-if(this.#job!==null||(way==="undo"&&at?.drops(activeElement)))return;
-if(!this.#page.takesEdits)return this.#say(this.#page.isReadOnly?reasonOf(FAULT.LogFull):OFFLINE,at);
-if(way==="undo")this.#page.stop(this.#undo.how);
-const plan=way==="undo"?this.#undo.undo():this.#undo.redo();
-if(plan===null)return this.#say(way==="undo"?this.#nothing:NOTHING.redo,at);
-this.#play(way,plan);}
-#play(way,plan){const job=new Playback(way,plan,this.#page.views.get(plan.key),this.#page.board,{made:(it,ops)=>this.#playbackMade(it,ops),ended:(it)=>this.#ended(it),});
-this.#job=job;
-if(!this.#page.isShort(job))this.#page.begin(job);
-else{this.#page.run(job);
-job.end();}
-this.tell();}
-#playbackMade(plan,ops){plan.made(this.#made);
-for(const[view,some]of this.#viewsOf(ops))view.tookBack(some);}
-#ended({way,plan}){this.#job=null;
-const ending=plan.finish();
-const{key,after}=ending.place??{key:plan.key};
-const view=this.#page.views.get(key);
-view.reveal(after);
-this.#page.drawSoon();
-this.#say(this.#sentence(way,ending),view);
-this.tell();}
-#say(words,view){if(words!=="")this.#page.say("undo",words,view);}
-#sentence(way,{did,skipped,isFull}){if(did.length===0)return isFull?reasonOf(FAULT.LongText):skipped>0?OTHERS:"";
-const phrases=Array.from(Map.groupBy(did,({key})=>key),([key,some])=>this.#phrase(this.#page.views.get(key),some));
-const words=`${DONE[way]}: ${phrases.join(", ")}`;
-return isFull?`${words}. ${NO_ROOM}`:words;}
-#phrase({widget,name},did){const caption=name.textContent;
-if(did[0].kind==="set")return `${caption}, now ${settingOf(widget)}`;
-const counts=Map.groupBy(did,({kind})=>(widget.kind==="text"?"character":UNITS[kind]));
-const sum=(some)=>some.reduce((total,{count})=>total + count,0);
-return `${Array.from(counts, ([unit, some]) => counted(sum(some), unit)).join(" and ")} in ${caption}`;}
-#viewOf({win,wid}){return this.#page.views.get(`${win}.${wid}`);}
-#viewsOf(ops){return Map.groupBy(ops,(op)=>this.#viewOf(op));}}
-const REMEMBERED=4000;
-const LOOK_AGAIN=300;
-const LOST="The server may not have this. Look at the board, and copy what is missing there.";
-class Untaken{#page;
-#edits=[];
-#lost=null;
-#offered=null;
-#looker=null;
-constructor(page){this.#page=page;}
-add(edit){this.#edits.push({...edit,number:this.#page.editCount,made:performance.now(),at:null});
-edit.view.awaits(1);}
-get oldest(){return this.#edits.find(({at})=>at===null)?.made??null;}
-get isPending(){return this.#lost!==null;}
-confirmed(count){const now=performance.now();
-for(const edit of this.#edits.filter(({number,at})=>at===null&&number<=count)){edit.at=now;
-edit.view.awaits(-1);}
-this.#edits=this.#recent();}
-#recent(){const now=performance.now();
-return this.#edits.filter(({at})=>at===null||now - at<REMEMBERED);}
-lose(old,jobs){const edits=this.#recent();
-if(edits.length + jobs.length===0)return;
-for(const{view,at}of edits)if(at===null)view.awaits(-1);
-this.#lost={old,edits,jobs};
-this.#edits=[];}
-settle(isSame){if(this.#lost===null)return[];
-const{old,edits,jobs}=this.#lost;
-this.#lost=null;
-return isSame?this.#settleSame(old,edits,jobs):this.#settleOther(old,edits,jobs);}
-#settleSame(old,edits,jobs){const unconfirmed=edits.filter(({at})=>at===null);
-const untaken=new Set(missing(unconfirmed.map(({ops})=>ops),old.site,this.#page.board));
-const left=unconfirmed.filter(({ops})=>untaken.has(ops));
-for(const job of jobs)job.takeBack(left.filter((it)=>it.job===job));
-this.#offer(left.filter(({job})=>!jobs.includes(job)).map(({ops})=>ops),old);
-return jobs.filter((job)=>!job.isDone);}
-#settleOther(old,edits,jobs){const rests=new Map(jobs.map((job)=>[job.view.key,job]));
-this.#offer(maybeMissing(edits.map(({ops})=>ops),old.board,this.#page.board),old,rests);
-return[];}
-#offer(edits,old,rests=new Map()){const{notices,views}=this.#page;
-const made=Array.from(wordsOf(edits,old.board,rests),([key,text])=>notices.add({view:views.get(key),words:LOST,text}));
-this.#offered=made.length>0?{edits,old,notices:made}:null;}
-lookAgain(){if(this.#offered!==null)this.#looker??=setTimeout(()=>this.#look(),LOOK_AGAIN);}
-#look(){this.#looker=null;
-const{link,board,notices}=this.#page;
-if(this.#offered===null||!link.isOpen||!isSameRun(this.#offered.old,link.site))return;
-const{edits,old,notices:made}=this.#offered;
-const left=missing(edits,old.site,board);
-if(left.length===edits.length)return;
-for(const element of made.filter((it)=>it.isConnected))notices.end(element);
-this.#offer(left,old);}}
-const PLAIN=[[/[\u2018-\u201b\u2032]/g,"'"],[/[\u201c-\u201f\u2033]/g,'"'],[/[\u2010-\u2015\u2212]/g,"-"],[/\u2026/g,"..."],[/[\t\u00a0\u2007-\u200a\u202f]/g," "],];
-const plain=(text)=>PLAIN.reduce((it,[shape,by])=>it.replace(shape,by),text);
-function faultOf(text){const letters=Array.from(new Intl.Segmenter().segment(text),({segment})=>segment);
-const other=letters.find((it)=>!isLabel(it));
-if(other!==undefined)return `An item can\u2019t have \u201c${other}\u201d. It takes letters without accents, digits, spaces and the signs of a keyboard.`;
-return text.length>MOST_LETTERS?`${text.length} of ${MOST_LETTERS} characters`:"";}
-const linesOf=(text)=>plain(text).split(/[\r\n]+/).map((it)=>it.trim()).filter((it)=>it!=="");
-function merged(base,mine,theirs){if(mine===theirs||theirs===base)return mine;
-if(mine===base)return theirs;
-const[first,second]=[changeOf(base,mine),changeOf(base,theirs)].sort((one,other)=>one.start - other.start||one.end - other.end);
-return isBefore(first,second)?put(put(base,second),first)||null:null;}
-function changeOf(base,now){const{head,tail}=difference(base,now);
-return{start:head,end:base.length - tail,text:now.slice(head,now.length - tail)};}
-function isBefore(one,other){return one.end<other.start||(one.end===other.start&&one.end>one.start&&other.end>other.start);}
-const put=(text,{start,end,text:it})=>text.slice(0,start)+ it + text.slice(end);
-class Relabels{#open=new Map();
-made(name,number,before,step){this.#open.set(name,[...(this.#open.get(name)??[]),{number,before,step}]);}
-rename(old,name){if(this.#open.has(old))this.#open.set(name,this.#open.get(old));
-this.#open.delete(old);}
-forget(name){this.#open.delete(name);}
-confirmed(count){for(const name of this.#open.keys())this.#later(name,count);}
-came(name,theirs,heard){const[first]=this.#later(name,heard);
-if(!first)return null;
-const{before:base,step}=first;
-first.before=theirs;
-return{base,step};}
-isOpen(name,heard){return this.#later(name,heard).length>0;}
-#later(name,count){const open=(this.#open.get(name)??[]).filter(({number})=>number>=count);
-if(open.length>0)this.#open.set(name,open);
-else this.#open.delete(name);
-return open;}}
-const EDGE=80;
-const SCROLL=12;
-class Handle{#list;
-#row;
-#end=null;
-#above=null;
-constructor(list,row){this.#list=list;
-this.#row=row;
-this.element=make("button",{type:"button",className:"handle",textContent:"\u2195",title:"Drag, or press an arrow key",mousedown:(event)=>event.preventDefault(),pointerdown:(event)=>event.button===0&&this.#grasp(event.pointerId),});}
-set label(label){this.element.ariaLabel=`Move ${label}`;}
-#grasp(pointer){if(this.#end||this.element.ariaDisabled==="true"||this.#list.hasJustMoved(this.#row))return;
-const ending=new AbortController();
-const listen=(kind,step)=>addEventListener(kind,step,{signal:ending.signal,capture:true});
-const ifMine=(step)=>(event)=>event.pointerId===pointer&&step(event);
-this.#end=()=>ending.abort();
-this.#row.element.classList.add("dragged");
-listen("pointermove",ifMine(({clientY})=>this.#move(clientY)));
-listen("pointerup",ifMine(()=>this.#release(true)));
-listen("pointercancel",ifMine(()=>this.#release(false)));
-listen("keydown",(event)=>event.key==="Escape"&&this.#release(false));}
-#move(height){if(height<EDGE)scrollBy(0,-SCROLL);
-if(height>innerHeight - EDGE)scrollBy(0,SCROLL);
-this.#above=this.#list.rowsAbove(height);
-this.#list.markLanding(this.#above);}
-#release(isDropped){const above=this.#above;
-this.#end();
-this.#end=null;
-this.#above=null;
-this.#row.element.classList.remove("dragged");
-this.#list.markLanding(null);
-if(isDropped&&above!==null)this.#list.moveBelow(this.#row,above);}}
-function putPlain(field){const typed=field.value;
-const cursor=plain(typed.slice(0,field.selectionEnd)).length;
-if(plain(typed)===typed)return;
-field.value=plain(typed);
-field.setSelectionRange(cursor,cursor);}
-class Hints{element=make("div");
-#field;
-#id;
-#shown="";
-constructor(field,id){this.#field=field;
-this.#id=id;}
-show(hints){const shown=JSON.stringify(hints.map(({words,choices})=>[words,Object.keys(choices)]));
-if(shown===this.#shown)return;
-this.#shown=shown;
-this.element.replaceChildren(...hints.map((it)=>hintOf(this.#id,it)));
-if(hints.length>0)this.#field.setAttribute("aria-describedby",this.#id);
-else this.#field.removeAttribute("aria-describedby");}}
-function hintOf(id,{words,choices}){const buttons=Object.entries(choices).map(([name,click])=>make("button",{type:"button",textContent:name,mousedown:(event)=>event.preventDefault(),click}));
-return make("div",{className:"row wraps"},make("p",{id,className:"hint",textContent:words}),...buttons);}
-class Row{isGhost=false;
-movedAt=-Infinity;
-#list;
-#base=null;
-#isLost=false;
-#isAsked=false;
-#offers=[];
-#labelledBy="Others";
-#deletedBy="others";
-#hints;
-constructor(list,id,{name,value}){this.#list=list;
-Object.assign(this,{name,label:value});
-this.field=make("input",{type:"text",value,autocomplete:"off",dir:"auto",ariaLabel:`Item of ${list.name.textContent}`,focus:()=>(this.#base??=this.label),input:(event)=>event.isComposing||this.#typed(),compositionend:()=>this.#typed(),paste:(event)=>list.pasted(event,this.field,this),keydown:(event)=>event.key==="Escape"&&!event.isComposing&&this.takeBack(),});
-this.handle=new Handle(list,this);
-this.remove=make("button",{type:"button",textContent:"\u00d7",click:()=>list.remove(this)});
-this.#hints=new Hints(this.field,id);
-this.element=make("li",{tabIndex:-1,focusout:(event)=>isLeft([this.field,this.#hints.element],event)&&this.#leave()},make("div",{className:"row"},this.handle.element,this.field,this.remove),this.#hints.element);
-this.#name();}
-#name(){this.handle.label=this.label;
-this.remove.ariaLabel=`Delete ${this.label}`;}
-get hasFocus(){return document.activeElement===this.field;}
-get isDraft(){return this.#base!==null&&(this.field.value!==this.#base||(this.isGhost&&this.#isLost));}
-get isKept(){return this.#base!==null;}
-get #fault(){return this.isDraft?faultOf(this.#mine):"";}
-get #mine(){return plain(this.field.value).trim();}
-get isGood(){return this.#fault==="";}
-setOpen(isOpen){this.field.readOnly=!isOpen;
-for(const it of[this.handle.element,this.remove])it.ariaDisabled=String(!isOpen);}
-show(label,by="Others"){if(label===this.label&&!this.isGhost)return;
-Object.assign(this,{label,isGhost:false});
-this.#labelledBy=by;
-this.#deletedBy="others";
-if(this.#base===null)this.field.value=label;
-this.#name();
-this.tell();}
-putBack(label){const hasCursor=this.#base!==null&&!this.isDraft;
-if(hasCursor)this.#base=null;
-this.show(label,"Undo");
-if(hasCursor)this.#end();}
-isTakenAway(){this.#deletedBy="undo";
-if(!this.isDraft)this.#base=null;}
-outlive(){this.isGhost=true;
-this.#isAsked=false;
-this.tell();}
-forget(){this.#base=null;
-this.#offers=[];
-this.isGhost=false;
-this.tell();}
-loses(){this.#isLost=true;
-this.#base??=this.label;}
-races(base,theirs,step){const label=merged(base,this.label,theirs);
-if(label===this.label)return;
-if(label===null||faultOf(label)!==""||!this.#list.relabel(this,label,step))this.#offers.push(theirs);
-this.tell();}
-send(){if(!this.isDraft||this.isGhost||!this.isGood)return;
-const label=merged(this.#base,this.#mine,this.label);
-this.#isAsked=label===null||faultOf(label)!=="";
-if(!this.#isAsked)this.#put(label);
-this.tell();}
-#put(label){if(label==="")this.#list.removeEmptied(this);
-else if(label===this.label||this.#list.relabel(this,label))this.#end();}
-#typed(){putPlain(this.field);
-this.#isAsked=false;
-this.tell();}
-#leave(){this.send();
-if(this.isDraft)this.tell();
-else if(this.isGhost)this.#list.drop(this);
-else this.#end();}
-#end(){this.#base=this.hasFocus?this.label:null;
-this.#isAsked=false;
-this.field.value=this.label;
-this.tell();}
-takeBack(){if(this.isGhost)this.#list.drop(this);
-else this.#end();}
-#keepMine(){this.#base=this.label;
-this.send();}
-#addAgain(){const label=this.#mine===""?this.label:this.#mine;
-if(faultOf(label)!==""||!this.#list.addAgain(this,label))return;
-this.#isLost=false;
-this.#end();}
-#choose(offer,isTaken){if(isTaken&&!this.#list.relabel(this,offer))return;
-this.#offers.splice(this.#offers.indexOf(offer),1);
-this.tell();}
-tell(){const isWrong=this.#fault!==""||this.#isAsked;
-this.element.classList.toggle("ghost",this.isGhost);
-this.field.ariaInvalid=String(isWrong);
-for(const it of[this.handle.element,this.remove])it.hidden=this.isGhost;
-this.#hints.show([...this.#hintsNow()]);
-this.#list.page.notices.hold(this.element,this.#offers.length>0||((isWrong||(this.isGhost&&this.isDraft))&&!this.hasFocus));
-this.#list.page.drafts.hold(this,this.isDraft);}
-*#hintsNow(){const theirs=`${this.#labelledBy} wrote \u201c${this.label}\u201d`;
-const choices=(keep,take)=>({"Keep mine":keep,"Take theirs":take});
-if(this.#fault!=="")yield{words:this.#fault,choices:this.hasFocus||this.isGhost?{}:{Drop:()=>this.takeBack()}};
-if(this.isGhost)yield{words:`Deleted by ${this.#deletedBy}`,choices:{"Add it again":()=>this.#addAgain(),Drop:()=>this.takeBack()}};
-else if(this.#isAsked)yield{words:theirs,choices:choices(()=>this.#keepMine(),()=>this.takeBack())};
-else if(this.#base!==null&&this.label!==this.#base)yield{words:theirs,choices:{}};
-for(const it of this.#offers)yield{words:`Others wrote \u201c${it}\u201d at the same time`,choices:choices(()=>this.#choose(it,false),()=>this.#choose(it,true))};}}
-class Foot{movedAt=-Infinity;
-#list;
-#plus;
-#hints;
-constructor(list,id){this.#list=list;
-this.field=make("input",{type:"text",id,placeholder:"add an item",autocomplete:"off",dir:"auto",enterKeyHint:"done",input:(event)=>event.isComposing||this.#typed(),compositionend:()=>this.#typed(),paste:(event)=>list.pasted(event,this.field),});
-this.#plus=make("button",{type:"button",textContent:"+",click:()=>this.add()});
-this.#hints=new Hints(this.field,`${id}-hint`);
-this.element=make("div",{className:"foot",focusout:(event)=>isLeft([this.element],event)&&this.add()},make("div",{className:"row"},this.field,this.#plus),this.#hints.element);}
-named(caption){this.field.ariaLabel=`Add to ${caption}`;
-this.#plus.ariaLabel=`Add the item to ${caption}`;}
-setOpen(isOpen){this.field.readOnly=!isOpen;
-this.#plus.ariaDisabled=String(!isOpen);}
-get hasFocus(){return document.activeElement===this.field;}
-get isDraft(){return this.#label!=="";}
-get #label(){return plain(this.field.value).trim();}
-add(){if(this.isDraft&&faultOf(this.#label)===""&&this.#list.append(this.#label))this.field.value="";
-this.#tell();}
-takeBack(){this.field.value="";
-this.#tell();}
-#typed(){putPlain(this.field);
-this.#tell();}
-#tell(){const{notices,drafts}=this.#list.page;
-const fault=faultOf(this.#label);
-this.field.ariaInvalid=String(fault!=="");
-this.#hints.show(fault===""?[]:[{words:fault,choices:{}}]);
-notices.hold(this.element,fault!==""&&!this.hasFocus);
-drafts.hold(this,this.isDraft);}}
-const MOVED=500;
-const ARROWS={ArrowUp:-1,ArrowDown:1};
-class ListView extends View{#rows=new Map();
-#shown=[];
-#relabels=new Relabels();
-#isOpen=true;
-#count=0;
-#isVoid=false;
-constructor(...given){super(...given);
-this.name.id=`${this.id}-caption`;
-this.list=make("ol",{role:"list",tabIndex:-1,"aria-labelledby":this.name.id});
-this.foot=new Foot(this,this.id);
-this.element=make("div",{className:"widget",role:"group","aria-labelledby":this.name.id,keydown:(event)=>event.isComposing||this.#key(event)},this.head(this.name,this.copy),this.list,this.foot.element);
-for(const kind of["mousedown","click"])this.element.addEventListener(kind,(event)=>this.#guard(event),true);
-this.named();
-this.draw();}
-named(){super.named();
-this.foot.named(this.name.textContent);}
-setOpen(isOpen){this.#isOpen=isOpen;
-for(const it of[...this.#shown,this.foot])it.setOpen(isOpen);}
-forgetNames(){const{items}=this.widget;
-this.#relabels=new Relabels();
-this.#rows=new Map();
-this.#shown.filter((row)=>!row.isGhost).forEach((row,at)=>{const item=items[at];
-if(item&&(!row.isDraft||item.value===row.label))this.#rows.set(item.name,Object.assign(row,{name:item.name}));
-else this.#lose(row);});}
-came({verb,name,value},heard){const now=this.page.nameOf(this,name);
-const row=this.#rows.get(name)??this.#rows.get(now);
-if(!row)return;
-if(verb==="del")this.#follows(row,now);
-if(verb==="del"&&row.name===name&&this.#relabels.isOpen(name,heard))row.loses();
-const race=verb==="rel"?this.#relabels.came(row.name,value,heard):null;
-if(race!==null)row.races(race.base,value,race.step);}
-follow(){for(const row of[...this.#rows.values()])if(!this.widget.names.has(row.name))this.#follows(row,this.page.nameOf(this,row.name));}
-#follows(row,name){const{names}=this.widget;
-if(!names.has(row.name)&&names.has(name))this.#rename(row,name);}
-#rename(row,name){const other=this.#rows.get(name);
-this.#relabels.rename(row.name,name);
-if(other?.isKept&&!row.isKept)return this.#lose(row);
-if(other)this.#lose(other);
-this.#rows.delete(row.name);
-this.#rows.set(name,Object.assign(row,{name}));}
-tookBack(ops){super.tookBack();
-this.follow();
-for(const{verb,name,value}of ops){this.#relabels.forget(name);
-if(verb==="rel")this.#rows.get(name)?.putBack(value);
-if(verb==="del")this.#rows.get(name)?.isTakenAway();}}
-reveal(name){this.update();
-const element=this.#rows.get(name)?.element??this.element;
-element.scrollIntoView({block:"nearest"});
-flash(element);}
-drops(field){const it=[...this.#shown,this.foot].find((draft)=>draft.field===field&&draft.isDraft);
-it?.takeBack();
-return it!==undefined;}
-confirmed(count){this.#relabels.confirmed(count);}
-draw(){const{items,names}=this.widget;
-const[before,height]=[this.#shown,this.isChanged?this.list.offsetHeight:0];
-for(const row of before)if(!row.isGhost&&!names.has(row.name))this.#lose(row);
-for(const item of items)(this.#rows.get(item.name)??this.#make(item)).show(item.value);
-this.#shown=this.#order(items);
-this.#keepFocus(before);
-arrange(this.list,this.#shown.map(({element})=>element));
-if(this.isChanged)this.#moved(before,height);}
-#make(item){this.#count +=1;
-const row=new Row(this,`${this.id}-hint-${this.#count}`,item);
-row.setOpen(this.#isOpen);
-this.#rows.set(item.name,row);
-return row;}
-#lose(row){this.#rows.delete(row.name);
-if(row.isKept)row.outlive();
-else row.forget();}
-#order(items){const behind=new Map([[null,[]]]);
-let last=null;
-for(const row of this.#shown){if(row.isGhost)behind.get(last).push(row);
-else if(this.#rows.get(row.name)===row)behind.set((last=row),[]);}
-return[...behind.get(null),...items.map(({name})=>this.#rows.get(name)).flatMap((row)=>[row,...(behind.get(row)??[])])];}
-#keepFocus(before){const at=before.findIndex(({element})=>element.contains(document.activeElement));
-if(at<0||this.#shown.includes(before[at]))return;
-const next=[...before.slice(at + 1),...before.slice(0,at).reverse()].find((row)=>this.#shown.includes(row));
-(next?.element??this.list).focus();}
-#moved(before,height){const first=this.#shown.findIndex((row,at)=>row!==before[at]);
-const isSame=first<0&&this.#shown.length===before.length;
-if(isSame&&this.list.offsetHeight===height)return;
-const moved=isSame||first>=0?this.#shown.slice(Math.max(first,0)):[];
-for(const it of[...moved,this.foot])it.movedAt=performance.now();}
-#guard(event){if(event.detail===0)return;
-const hit=[...this.#shown,this.foot].find(({element})=>element.contains(event.target));
-const isSecond=event.detail>1&&event.target.closest("button")!==null;
-if(event.type==="mousedown")this.#isVoid=isSecond||(hit!==undefined&&this.hasJustMoved(hit));
-if(!this.#isVoid)return;
-event.preventDefault();
-event.stopPropagation();
-if(!isSecond)flash(hit.element);}
-hasJustMoved(row){return performance.now()- row.movedAt<MOVED;}
-relabel(row,label,step={}){const place=placeOf(this.widget.items,row.name,0);
-const before=this.widget.items[place]?.value;
-if(place<0||!this.edit([{verb:"rel",place,value:label}],step))return false;
-this.#relabels.made(row.name,this.page.editCount - 1,before,step);
-row.show(label);
-return true;}
-#moveBy(row,way){const place=placeOf(this.widget.items,row.name,0);
-if(place>=0)this.#move(row,place,place + way);}
-moveBelow(row,rows){const{items,names}=this.widget;
-const last=rows.findLast((it)=>it!==row&&names.has(it.name));
-const place=placeOf(items,row.name,0);
-const at=last?placeOf(items,last.name,0):-1;
-if(place>=0)this.#move(row,place,at<place?at + 1:at);}
-#move(row,place,to){const{items}=this.widget;
-const{value}=items[place];
-const ops=place!==to&&items[to]?this.edit([{verb:"del",place},{verb:"ins",place:to,value}]):null;
-if(ops!==null)this.#rename(row,ops[1].name);
-this.draw();
-row.element.scrollIntoView({block:"nearest"});
-this.page.say("move",`${value}, ${placeOf(items, row.name, to) + 1} of ${items.length}`);}
-rowsAbove(height){const middle=({element})=>element.getBoundingClientRect().top + element.offsetHeight / 2;
-return this.#shown.slice(0,1 + this.#shown.findLastIndex((row)=>middle(row)<height));}
-markLanding(rows){for(const row of this.#shown)row.element.classList.toggle("lands",row===rows?.at(-1));
-this.list.classList.toggle("lands",rows?.length===0);}
-remove(row){const place=placeOf(this.widget.items,row.name,0);
-if(place<0||!this.edit([{verb:"del",place}]))return -1;
-row.forget();
-this.draw();
-return place;}
-removeEmptied(row){const{label}=row;
-const place=this.remove(row);
-if(place>=0)this.page.notices.add({view:this,words:`\u201c${label}\u201d is deleted, since you emptied it.`,choices:{"Add it again":()=>this.#insert(place,[label])}});}
-drop(row){row.forget();
-this.draw();}
-addAgain(row,label){const before=this.#shown.slice(0,this.#shown.indexOf(row)).findLast((it)=>!it.isGhost);
-const ops=this.edit([{verb:"ins",place:before?placeOf(this.widget.items,before.name,0)+ 1:0,value:label}]);
-if(!ops)return false;
-Object.assign(row,{name:ops[0].name,label,isGhost:false});
-this.#rows.set(row.name,row);
-this.draw();
-return true;}
-pasted(event,field,row){const text=event.clipboardData.getData("text/plain");
-const lines=linesOf(field.value.slice(0,field.selectionStart)+ text + field.value.slice(field.selectionEnd));
-if(lines.length<2||field.readOnly)return;
-event.preventDefault();
-field.value=row?lines.shift():"";
-field.dispatchEvent(new InputEvent("input"));
-this.#insert(row&&!row.isGhost?placeOf(this.widget.items,row.name,0)+ 1:this.widget.items.length,lines);}
-#insert(place,labels){const left=labels.filter((it)=>faultOf(it)==="");
-const bad=labels.filter((it)=>faultOf(it)!=="");
-const step={};
-for(let at=Math.min(place,this.widget.items.length);left.length>0;){const commands=left.slice(0,MOST_OPERATIONS).map((value,more)=>({verb:"ins",place:at + more,value}));
-if(!this.edit(commands,step))break;
-at +=commands.length;
-left.splice(0,commands.length);}
-this.draw();
-const rest=[...left,...bad];
-if(rest.length>0)this.page.notices.add({view:this,words:`${counted(rest.length, "line")} could not be added.`,text:rest.join("\n")});}
-append(label){const isMade=this.edit([{verb:"ins",place:this.widget.items.length,value:label}])!==null;
-if(isMade)this.draw();
-return isMade;}
-hide(){for(const row of[...this.#shown])row.send();}
-sendDrafts(){for(const row of this.#shown.filter(({hasFocus})=>!hasFocus))row.send();
-if(!this.foot.hasFocus)this.foot.add();}
-get drafts(){return[...this.#shown,this.foot].filter((it)=>it.isDraft).map(({field})=>field.value);}
-close(){for(const row of this.#shown)row.forget();
-this.foot.takeBack();}
-#key(event){const row=this.#shown.find(({element})=>element.contains(event.target));
-if(event.key in ARROWS&&row&&(event.altKey||event.target===row.handle.element)){event.preventDefault();
-return this.#moveBy(row,ARROWS[event.key]);}
-if(event.target!==this.foot.field)return this.#walk(event);
-if(event.key==="Enter")return this.foot.add();
-return event.key==="Escape"?this.foot.takeBack():this.#walk(event);}
-#walk(event){const way={...ARROWS,Enter:1}[event.key];
-const row=this.#shown.find(({element,field})=>event.target===element||event.target===field);
-if(!way||!(row||event.target===this.foot.field))return;
-const fields=[...this.#shown,this.foot].map(({field})=>field);
-const next=event.target===row?.element?row.field:fields[fields.indexOf(event.target)+ way];
-event.preventDefault();
-if(event.key==="Enter"&&row&&!row.isGood)return;
-next?.focus();}}
-class ToggleView extends View{constructor(...given){super(...given);
-this.box=make("input",{type:"checkbox",role:"switch",id:this.id,change:()=>this.edit([{verb:"set",value:this.box.checked}])||this.draw()});
-this.element=make("div",{className:"widget across"},this.head(this.label()),this.box);
-this.named();
-this.draw();}
-setOpen(isOpen){this.box.ariaDisabled=String(!isOpen);}
-draw(){this.box.checked=this.widget.value;}}
-class SliderView extends View{#drag=null;
-constructor(...given){super(...given);
-const{low:min,high:max}=this.widget;
-this.range=make("input",{type:"range",id:this.id,min,max,step:1,pointerdown:()=>(this.#drag={}),input:()=>this.#dragged(),change:()=>this.#dropped()});
-this.number=make("input",{type:"number",min,max,step:"any",change:()=>this.#typed(),input:()=>(this.hint.hidden=true)});
-this.hint=make("p",{className:"hint",textContent:`${min} to ${max}`,hidden:true});
-this.element=make("div",{className:"widget"},this.head(this.label()),make("div",{className:"row wraps"},bound(min),this.range,bound(max),this.number),this.hint);
-this.named();
-this.draw();}
-named(){super.named();
-this.number.ariaLabel=`${this.name.textContent}, as a number`;}
-setOpen(isOpen){this.range.ariaDisabled=String(!isOpen);
-this.number.readOnly=!isOpen;}
-#dragged(){this.number.value=this.range.value;
-this.frame??=requestAnimationFrame(()=>this.#set(Number(this.range.value)));}
-#dropped(){this.#set(Number(this.range.value));
-this.#drag=null;}
-#typed(){const{low,high,value}=this.widget;
-const typed=this.number.valueAsNumber;
-const nearest=Number.isNaN(typed)?value:Math.min(high,Math.max(low,Math.round(typed)));
-this.hint.hidden=Number.isNaN(typed)||nearest===Math.round(typed);
-if(!this.hint.hidden)this.page.say("bounds",this.hint.textContent);
-this.number.value=nearest;
-this.#set(nearest);}
-#set(value){cancelAnimationFrame(this.frame);
-this.frame=null;
-if(value!==this.widget.value)this.edit([{verb:"set",value}],this.#drag);
-this.draw();}
-get #isTyped(){return document.activeElement===this.number&&this.number.value!==this.shown;}
-drops(field){if(field!==this.number||!this.#isTyped)return false;
-this.number.value=this.shown;
-return true;}
-draw(){const isTyped=this.#isTyped;
-this.range.value=this.widget.value;
-if(!isTyped)this.number.value=this.widget.value;
-this.shown=this.range.value;}}
-const bound=(value)=>make("span",{className:"bound",textContent:value,ariaHidden:"true"});
-class Job{#taken=0;
-#near=0;
-constructor(view,place,after,steps,how=null){Object.assign(this,{view,place,after,steps});
-this.how=typeof how==="string"&&steps.length>MOST_OPERATIONS?this:(how??this);
-this.#near=place;}
-get isDone(){return this.steps.length===0;}
-get left(){return this.steps.length;}
-get rest(){return this.steps.filter(({value})=>value!==undefined).map(({value})=>value);}
-get deletions(){return this.steps.length - this.rest.length;}
-takeBack(edits){if(edits.length===0)return;
-const steps=edits.flatMap(({ops})=>ops).map(({verb,name,value})=>(verb==="ins"?{value}:{name}));
-this.steps.unshift(...steps);
-this.after=edits[0].after;}
-next(){const{win,wid,widget}=this.view;
-const commands=[];
-let room=MOST_ITEMS - widget.items.length;
-const start=this.#placeOfInsertion(widget.items);
-const gone=[];
-const goneBefore=(place)=>gone.filter((it)=>it<place).length;
-let inserted=0;
-this.place=start;
-this.#taken=0;
-for(const{name,value}of this.steps.slice(0,MOST_OPERATIONS)){const isInsertion=name===undefined;
-if(isInsertion&&room--<=0&&commands.length>0)break;
-this.#taken +=1;
-if(isInsertion)commands.push({verb:"ins",win,wid,place:start - goneBefore(start)+ inserted++,value});
-else{const found=placeOf(widget.items,name,this.#near);
-if(found<0)continue;
-commands.push({verb:"del",win,wid,place:found - goneBefore(found)});
-gone.push(found);
-this.#near=found;
-room +=1;}}
-return commands;}
-made(ops){this.steps.splice(0,this.#taken);
-const last=ops.findLast((op)=>op.verb==="ins");
-if(last)Object.assign(this,{after:last.name,place:last.place + 1});}
-show(){Object.assign(this.view,{isStale:true,caret:this.place});}
+end(){this.#m.ended()}}
+class eS{drag=null;#a;#h=new aR();#Y=null;#I=null;#bE=null;#aB=bb.undo;constructor(page){this.#a=page;document.addEventListener("keydown",a=>this.#bF(a));document.addEventListener("beforeinput",a=>this.#dE(a));for(let kind of["pointerdown","focusout"])document.addEventListener(kind,()=>this.#h.end());document.addEventListener("dragstart",()=>(this.drag={}));document.addEventListener("dragend",()=>(this.drag=null));for(let way of["undo","redo"]){found(way).addEventListener("mousedown",a=>a.preventDefault());found(way).addEventListener("click",()=>this.#bG(way))}}
+made(it){this.#Y=it}
+note(how){if(how===ay)return;this.#h.note(this.#Y,how,performance.now());this.#aB=bb.undo;this.tell()}
+came(it){for(let undo of new Set([this.#h,this.#bE??this.#h]))undo.came(it)}
+get took(){return this.#Y.took}
+nameOf(view,name){return this.#h.nameOf(view,name)}
+mend(){let plan=this.#a.isReady&&!this.#I?.isFirst&&this.#h.mend();if(!plan)return;while(!plan.isDone){let commands=plan.next(this.#a.board),ops=commands.length>0?this.#a.edit(this.#cz(commands[0]),commands,ay):[];if(ops===null)return;if(ops.length>0)this.#cA(plan,ops)}
+this.#a.drawSoon()}
+#cA(plan,ops){plan.made(this.#Y);for(let view of this.#cB(ops).keys()){view.isStale=!0;view.follow()}}
+joined(old,f,taken){if(f){this.#h.rejoin(old,this.#a.board,taken);this.bringIn(this.#h,ay)}else{if(this.#h.canUndo||this.#h.canRedo)this.#aB=eM;this.#h=new aR()}
+this.tell()}
+get isIdle(){return this.#I===null&&this.#a.isReady}
+bringIn(undo,how,ended=()=>{}){let plan=undo.mend(),{board}=this.#a,end=()=>{this.#dF(board);ended(plan===null||plan.isDone)};if(plan===null)return end();this.#bE=undo;let job=this.#cC("mend",plan,ops=>this.#cA(plan,ops),()=>(plan.isFull?this.#bw(undo,how,ended):end()));return this.#cD(Object.assign(job,{how,isFirst:!0}))}
+lost(){this.#a.stop(this.#I)}
+#bF(a){if(/^(Arrow|Page|Home|End)/.test(a.key))this.#h.end();if(a.isComposing||a.altKey||!(a.ctrlKey||a.metaKey))return;let cl=/^[a-z]$/i.test(a.key)?a.key.toLowerCase():a.code.slice(3).toLowerCase(),way=cl==="z"&&a.shiftKey?"redo":eJ[cl];if(way===undefined)return;a.preventDefault();this.#bG(way)}
+#dE(a){let way=eK[a.inputType];if(way===undefined)return;a.preventDefault();if(!a.isComposing)this.#bG(way)}
+tell(){let isIdle=this.#a.takesEdits&&this.#I===null;found("undo").ariaDisabled=String(!(isIdle&&this.#h.canUndo));found("redo").ariaDisabled=String(!(isIdle&&this.#h.canRedo))}
+#bG(way){let{activeElement}=document,at=[...this.#a.views.values()].find(({element})=>element.contains(activeElement));if(this.#I!==null||(way==="undo"&&at?.drops(activeElement)))return;if(!this.#a.takesEdits)return this.#bH(this.#a.isReadOnly?R(32):eN,at);if(way==="undo")this.#a.stop(this.#h.how);let plan=way==="undo"?this.#h.undo():this.#h.redo();if(plan===null)return this.#bH(way==="undo"?this.#aB:bb.redo,at);this.#dG(way,plan)}
+#dG(way,plan){this.#cD(this.#cC(way,plan,ops=>this.#dH(plan,ops),()=>this.#A(way,plan)))}
+#cC(way,plan,made,ended){return new eR(way,plan,this.#a.views.get(plan.key),this.#a.board,{made,ended})}
+#cD(job){this.#I=job;if(!this.#a.isShort(job))this.#a.begin(job);else{this.#a.run(job);job.end()}
+this.tell()}
+#dH(plan,ops){plan.made(this.#Y);for(let[view,some]of this.#cB(ops))view.tookBack(some)}
+#bw(undo,how,ended){this.#I=null;for(let[key,some]of undo.giveUp(this.#a.board)){let view=this.#a.views.get(key),text=view.widget.kind==="text"?some.map(([,value])=>G(value)).join(""):some.map(([,label])=>label).join("\n");this.#a.notices.add({view,words:R(6),text})}
+this.bringIn(undo,how,ended)}
+#dF(board){this.#I=this.#bE=null;if(board===this.#a.board)for(let view of this.#a.views.values())view.goOn();this.#a.drawSoon();this.tell()}
+#A(way,plan){this.#I=null;let ae=plan.finish(),{key,after}=ae.place??{key:plan.key},view=this.#a.views.get(key);view.reveal(after);this.#a.drawSoon();this.#bH(this.#dI(way,ae),view);this.tell()}
+#bH(words,view){if(words!=="")this.#a.say("undo",words,view)}
+#dI(way,{did,skipped,isFull}){if(did.length===0)return isFull?R(6):skipped>0?eO:"";let eT=Array.from(S(did,({key})=>key),([key,some])=>this.#bA(this.#a.views.get(key),some)),words=`${eL[way]}: ${eT.join(", ")}`;return isFull?`${words}. ${eP}`:words}
+#bA({widget,name},did){let caption=name.textContent;if(did[0].kind==="set")return `${caption}, now ${aK(widget)}`;let eU=S(did,({kind})=>(widget.kind==="text"?"character":eQ[kind])),bc=some=>some.reduce((total,{count})=>total+count,0);return `${Array.from(eU, ([unit, some]) => x(bc(some), unit)).join(" and ")} in ${caption}`}
+#cz({win,wid}){return this.#a.views.get(`${win}.${wid}`)}
+#cB(ops){return S(ops,op=>this.#cz(op))}}
+let eV=4000,eW=300,eX="The server may not have this. Look at the board, and copy what is missing there.";class eY{#a;#P=[];#aj=null;#aC=null;#cE=null;constructor(page){this.#a=page}
+add(edit){this.#P.push({...edit,number:this.#a.editCount,made:performance.now(),at:null});edit.view.awaits(1)}
+get oldest(){return this.#P.find(({at})=>at===null)?.made??null}
+get waiting(){return this.#ab.length}
+get #ab(){return this.#P.filter(({at})=>at===null)}
+get kept(){let{old,edits}=this.#aj??{old:this.#a.link.site,edits:this.#P},left=edits.filter(({at})=>at===null);return{site:old,edits:left,oldest:left[0]?.made}}
+taken(old,board){let edits=this.#ab,left=au(edits.map(({ops})=>ops),old.site,board).length;return edits[edits.length-left-1]?.number??(edits[0]?.number??old.made+1)-1}
+forget(){for(let{view}of this.#ab)view.awaits(-1);this.#P=[]}
+get isPending(){return this.#aj!==null}
+confirmed(count){let now=performance.now();for(let edit of this.#ab.filter(({number})=>number<=count)){edit.at=now;edit.view.awaits(-1)}
+this.#P=this.#cF()}
+#cF(){let now=performance.now();return this.#P.filter(({at})=>at===null||now-at<eV)}
+lose(old,jobs){let edits=this.#cF();if(edits.length+jobs.length===0)return;for(let{view,at}of edits)if(at===null)view.awaits(-1);this.#aj={old,edits,jobs};this.#P=[]}
+settle(f){if(this.#aj===null)return[];let{old,edits,jobs}=this.#aj;this.#aj=null;return f?this.#dJ(old,edits,jobs):this.#dK(old,edits,jobs)}
+#dJ(old,edits,jobs){let cm=edits.filter(({at})=>at===null),untaken=new Set(au(cm.map(({ops})=>ops),old.site,this.#a.board)),left=cm.filter(({ops})=>untaken.has(ops));for(let job of jobs)job.takeBack(left.filter(it=>it.job===job));this.#ay(left.filter(({job})=>!jobs.includes(job)).map(({ops})=>ops),old);return jobs.filter(job=>!job.isDone)}
+#dK(old,edits,jobs){let rests=new Map(jobs.map(job=>[job.view.key,job]));this.#ay(dQ(edits.map(({ops})=>ops),old.board,this.#a.board),old,rests);return[]}
+#ay(edits,old,rests=new Map()){let{notices,views}=this.#a,made=Array.from(bG(edits,old.board,rests),([key,text])=>notices.add({view:views.get(key),words:eX,text}));this.#aC=made.length>0?{edits,old,notices:made}:null}
+lookAgain(){if(this.#aC!==null)this.#cE??=setTimeout(()=>this.#dL(),eW)}
+#dL(){this.#cE=null;let{link,board,notices}=this.#a;if(this.#aC===null||!link.isOpen||!bF(this.#aC.old,link.site))return;let{edits,old,notices:made}=this.#aC,left=au(edits,old.site,board);if(left.length===edits.length)return;for(let element of made.filter(it=>it.isConnected))notices.end(element);this.#ay(left,old)}}
+let eZ=[[/[\u2018-\u201b\u2032]/g,"'"],[/[\u201c-\u201f\u2033]/g,'"'],[/[\u2010-\u2015\u2212]/g,"-"],[/\u2026/g,"..."],[/[\t\u00a0\u2007-\u200a\u202f]/g," "]],H=text=>eZ.reduce((it,[s,by])=>it.replace(s,by),text);function K(text){let fa=Array.from(new Intl.Segmenter().segment(text),({segment})=>segment),l=fa.find(it=>!bk(it));if(l!==undefined)return `An item can\u2019t have \u201c${l}\u201d. It takes letters without accents, digits, spaces and the signs of a keyboard.`;return text.length>aC?`${text.length} of ${aC} characters`:""}
+let fb=text=>H(text).split(/[\r\n]+/).map(it=>it.trim()).filter(it=>it!=="");function cn(base,mine,p){if(mine===p||p===base)return mine;if(mine===base)return p;let[first,second]=[co(base,mine),co(base,p)].sort((B,l)=>B.start-l.start||B.end-l.end);return fc(first,second)?put(put(base,second),first)||null:null}
+function co(base,now){let{head,tail}=Y(base,now);return{start:head,end:base.length-tail,text:now.slice(head,now.length-tail)}}
+function fc(B,l){return B.end<l.start||(B.end===l.start&&B.end>B.start&&l.end>l.start)}
+let put=(text,{start,end,text:it})=>text.slice(0,start)+it+text.slice(end);class cp{#C=new Map();made(name,number,before,step){this.#C.set(name,[...(this.#C.get(name)??[]),{number,before,step}])}
+rename(old,name){if(this.#C.has(old))this.#C.set(name,this.#C.get(old));this.#C.delete(old)}
+forget(name){this.#C.delete(name)}
+confirmed(count){for(let name of this.#C.keys())this.#Q(name,count)}
+came(name,p,heard){let[first]=this.#Q(name,heard);if(!first)return null;let{before:base,step}=first;first.before=p;return{base,step}}
+isOpen(name,heard){return this.#Q(name,heard).length>0}
+#Q(name,count){let open=(this.#C.get(name)??[]).filter(({number})=>number>=count);if(open.length>0)this.#C.set(name,open);else this.#C.delete(name);return open}}
+let cq=80,cr=12;class fd{#e;#aD;#c=null;#aV=null;constructor(list,row){this.#e=list;this.#aD=row;this.element=b("button",{type:"button",className:"handle",textContent:"\u2195",title:"Drag, or press an arrow key",mousedown:a=>a.preventDefault(),pointerdown:a=>a.button===0&&this.#dM(a.pointerId)})}
+set label(label){this.element.ariaLabel=`Move ${label}`}
+#dM(fe){if(this.#c||this.element.ariaDisabled==="true"||this.#e.hasJustMoved(this.#aD))return;let ae=new AbortController(),az=(kind,step)=>addEventListener(kind,step,{signal:ae.signal,capture:!0}),M=step=>a=>a.pointerId===fe&&step(a);this.#c=()=>ae.abort();this.#aD.element.classList.add("dragged");az("pointermove",M(({clientY})=>this.#aW(clientY)));az("pointerup",M(()=>this.#bI(!0)));az("pointercancel",M(()=>this.#bI(!1)));az("keydown",a=>a.key==="Escape"&&this.#bI(!1))}
+#aW(height){if(height<cq)scrollBy(0,-cr);if(height>innerHeight-cq)scrollBy(0,cr);this.#aV=this.#e.rowsAbove(height);this.#e.markLanding(this.#aV)}
+#bI(ff){let cs=this.#aV;this.#c();this.#c=null;this.#aV=null;this.#aD.element.classList.remove("dragged");this.#e.markLanding(null);if(ff&&cs!==null)this.#e.moveBelow(this.#aD,cs)}}
+function ct(field){let C=field.value,cursor=H(C.slice(0,field.selectionEnd)).length;if(H(C)===C)return;field.value=H(C);field.setSelectionRange(cursor,cursor)}
+class cu{element=b("div");#bJ;#x;#b="";constructor(field,id){this.#bJ=field;this.#x=id}
+show(bd){let shown=JSON.stringify(bd.map(({words,choices})=>[words,Object.keys(choices)]));if(shown===this.#b)return;this.#b=shown;this.element.replaceChildren(...bd.map(it=>fg(this.#x,it)));if(bd.length>0)this.#bJ.setAttribute("aria-describedby",this.#x);else this.#bJ.removeAttribute("aria-describedby")}}
+function fg(id,{words,choices}){let W=Object.entries(choices).map(([name,click])=>b("button",{type:"button",textContent:name,mousedown:a=>a.preventDefault(),click}));return b("div",{className:"row wraps"},b("p",{id,className:"hint",textContent:words}),...W)}
+class fh{isGhost=!1;movedAt=-Infinity;#e;#p=null;#bK=!1;#ac=!1;#B=[];#cG="Others";#bL="others";#R;constructor(list,id,{name,value}){this.#e=list;Object.assign(this,{name,label:value});this.field=b("input",{type:"text",value,autocomplete:"off",dir:"auto",ariaLabel:`Item of ${list.name.textContent}`,focus:()=>(this.#p??=this.label),input:a=>a.isComposing||this.#y(),compositionend:()=>this.#y(),paste:a=>list.pasted(a,this.field,this),keydown:a=>a.key==="Escape"&&!a.isComposing&&this.takeBack()});this.handle=new fd(list,this);this.remove=b("button",{type:"button",textContent:"\u00d7",click:()=>list.remove(this)});this.#R=new cu(this.field,id);this.element=b("li",{tabIndex:-1,focusout:a=>ca([this.field,this.#R.element],a)&&this.#bM()},b("div",{className:"row"},this.handle.element,this.field,this.remove),this.#R.element);this.#aE()}
+#aE(){this.handle.label=this.label;this.remove.ariaLabel=`Delete ${this.label}`}
+get hasFocus(){return document.activeElement===this.field}
+get isDraft(){return this.#p!==null&&(this.field.value!==this.#p||(this.isGhost&&this.#bK))}
+get isKept(){return this.#p!==null}
+get #aX(){return this.isDraft?K(this.#aY):""}
+get #aY(){return H(this.field.value).trim()}
+get isGood(){return this.#aX===""}
+setOpen(isOpen){this.field.readOnly=!isOpen;for(let it of[this.handle.element,this.remove])it.ariaDisabled=String(!isOpen)}
+show(label,by="Others"){if(label===this.label&&!this.isGhost)return;Object.assign(this,{label,isGhost:!1});this.#cG=by;this.#bL="others";if(this.#p===null)this.field.value=label;this.#aE();this.tell()}
+putBack(label){let cv=this.#p!==null&&!this.isDraft;if(cv)this.#p=null;this.show(label,"Undo");if(cv)this.#c()}
+isTakenAway(){this.#bL="undo";if(!this.isDraft)this.#p=null}
+outlive(){this.isGhost=!0;this.#ac=!1;this.tell()}
+forget(){this.#p=null;this.#B=[];this.isGhost=!1;this.tell()}
+loses(){this.#bK=!0;this.#p??=this.label}
+races(base,p,step){let label=cn(base,this.label,p);if(label===this.label)return;if(label===null||K(label)!==""||!this.#e.relabel(this,label,step))this.#B.push(p);this.tell()}
+send(){if(!this.isDraft||this.isGhost||!this.isGood)return;let label=cn(this.#p,this.#aY,this.label);this.#ac=label===null||K(label)!=="";if(!this.#ac)this.#E(label);this.tell()}
+#E(label){if(label==="")this.#e.removeEmptied(this);else if(label===this.label||this.#e.relabel(this,label))this.#c()}
+#y(){ct(this.field);this.#ac=!1;this.tell()}
+#bM(){this.send();if(this.isDraft)this.tell();else if(this.isGhost)this.#e.drop(this);else this.#c()}
+#c(){this.#p=this.hasFocus?this.label:null;this.#ac=!1;this.field.value=this.label;this.tell()}
+takeBack(){if(this.isGhost)this.#e.drop(this);else this.#c()}
+#dN(){this.#p=this.label;this.send()}
+#dO(){let label=this.#aY===""?this.label:this.#aY;if(K(label)!==""||!this.#e.addAgain(this,label))return;this.#bK=!1;this.#c()}
+#cH(cw,fi){if(fi&&!this.#e.relabel(this,cw))return;this.#B.splice(this.#B.indexOf(cw),1);this.tell()}
+tell(){let cx=this.#aX!==""||this.#ac;this.element.classList.toggle("ghost",this.isGhost);this.field.ariaInvalid=String(cx);for(let it of[this.handle.element,this.remove])it.hidden=this.isGhost;this.#R.show([...this.#dP()]);this.#e.page.notices.hold(this.element,this.#B.length>0||((cx||(this.isGhost&&this.isDraft))&&!this.hasFocus));this.#e.page.drafts.hold(this,this.isDraft)}
+*#dP(){let p=`${this.#cG} wrote \u201c${this.label}\u201d`,choices=(fj,take)=>({"Keep mine":fj,"Take theirs":take});if(this.#aX!=="")yield{words:this.#aX,choices:this.hasFocus||this.isGhost?{}:{Drop:()=>this.takeBack()}};if(this.isGhost)yield{words:`Deleted by ${this.#bL}`,choices:{"Add it again":()=>this.#dO(),Drop:()=>this.takeBack()}};else if(this.#ac)yield{words:p,choices:choices(()=>this.#dN(),()=>this.takeBack())};else if(this.#p!==null&&this.label!==this.#p)yield{words:p,choices:{}};for(let it of this.#B)yield{words:`Others wrote \u201c${it}\u201d at the same time`,choices:choices(()=>this.#cH(it,!1),()=>this.#cH(it,!0))}}}
+class fk{movedAt=-Infinity;#e;#aZ;#R;constructor(list,id){this.#e=list;this.field=b("input",{type:"text",id,placeholder:"add an item",autocomplete:"off",dir:"auto",enterKeyHint:"done",input:a=>a.isComposing||this.#y(),compositionend:()=>this.#y(),paste:a=>list.pasted(a,this.field)});this.#aZ=b("button",{type:"button",textContent:"+",click:()=>this.add()});this.#R=new cu(this.field,`${id}-hint`);this.element=b("div",{className:"foot",focusout:a=>ca([this.element],a)&&this.add()},b("div",{className:"row"},this.field,this.#aZ),this.#R.element)}
+named(caption){this.field.ariaLabel=`Add to ${caption}`;this.#aZ.ariaLabel=`Add the item to ${caption}`}
+setOpen(isOpen){this.field.readOnly=!isOpen;this.#aZ.ariaDisabled=String(!isOpen)}
+get hasFocus(){return document.activeElement===this.field}
+get isDraft(){return this.#ba!==""}
+get #ba(){return H(this.field.value).trim()}
+add(){if(this.isDraft&&K(this.#ba)===""&&this.#e.append(this.#ba))this.field.value="";this.#l()}
+takeBack(){this.field.value="";this.#l()}
+#y(){ct(this.field);this.#l()}
+#l(){let{notices,drafts}=this.#e.page,fault=K(this.#ba);this.field.ariaInvalid=String(fault!=="");this.#R.show(fault===""?[]:[{words:fault,choices:{}}]);notices.hold(this.element,fault!==""&&!this.hasFocus);drafts.hold(this,this.isDraft)}}
+let fl=500,ARROWS={ArrowUp:-1,ArrowDown:1};class fm extends aw{#i=new Map();#b=[];#ad=new cp();#cI=!0;#aS=0;#cJ=!1;constructor(...given){super(...given);this.name.id=`${this.id}-caption`;this.list=b("ol",{role:"list",tabIndex:-1,"aria-labelledby":this.name.id});this.foot=new fk(this,this.id);this.element=b("div",{className:"widget",role:"group","aria-labelledby":this.name.id,keydown:a=>a.isComposing||this.#bF(a)},this.head(this.name,this.copy),this.list,this.foot.element);for(let kind of["mousedown","click"])this.element.addEventListener(kind,a=>this.#dQ(a),!0);this.named();this.draw()}
+named(){super.named();this.foot.named(this.name.textContent)}
+setOpen(isOpen){this.#cI=isOpen;for(let it of[...this.#b,this.foot])it.setOpen(isOpen)}
+rebind(widget,f){this.#ad=new cp();super.rebind(widget,f)}
+forgetNames(){let{items}=this.widget;this.#i=new Map();this.#b.filter(row=>!row.isGhost).forEach((row,at)=>{let item=items[at];if(item&&(!row.isDraft||item.value===row.label))this.#i.set(item.name,Object.assign(row,{name:item.name}));else this.#H(row)})}
+came({verb,name,value},heard){let now=this.nameOf(name),row=this.#i.get(name)??this.#i.get(now);if(!row)return;if(verb==="del")this.#cK(row,now);if(verb==="del"&&row.name===name&&this.#ad.isOpen(name,heard))row.loses();let be=verb==="rel"?this.#ad.came(row.name,value,heard):null;if(be!==null)row.races(be.base,value,be.step)}
+follow(){for(let row of[...this.#i.values()])if(!this.widget.names.has(row.name))this.#cK(row,this.nameOf(row.name))}
+#cK(row,name){let{names}=this.widget;if(!names.has(row.name)&&names.has(name))this.#M(row,name)}
+#M(row,name){let l=this.#i.get(name);this.#ad.rename(row.name,name);if(l?.isKept&&!row.isKept)return this.#H(row);if(l)this.#H(l);this.#i.delete(row.name);this.#i.set(name,Object.assign(row,{name}))}
+tookBack(ops){super.tookBack();this.follow();for(let{verb,name,value}of ops){this.#ad.forget(name);if(verb==="rel")this.#i.get(name)?.putBack(value);if(verb==="del")this.#i.get(name)?.isTakenAway()}}
+reveal(name){this.update();let element=this.#i.get(name)?.element??this.element;element.scrollIntoView({block:"nearest"});cb(element)}
+drops(field){let it=[...this.#b,this.foot].find(e=>e.field===field&&e.isDraft);it?.takeBack();return it!==undefined}
+confirmed(count){this.#ad.confirmed(count)}
+draw(){let{items,names}=this.widget,[before,height]=[this.#b,this.isChanged?this.list.offsetHeight:0];for(let row of before)if(!row.isGhost&&!names.has(row.name))this.#H(row);for(let item of items)(this.#i.get(item.name)??this.#dR(item)).show(item.value);this.#b=this.#dS(items);this.#dT(before);ba(this.list,this.#b.map(({element})=>element));if(this.isChanged)this.#aQ(before,height)}
+#dR(item){this.#aS+=1;let row=new fh(this,`${this.id}-hint-${this.#aS}`,item);row.setOpen(this.#cI);this.#i.set(item.name,row);return row}
+#H(row){this.#i.delete(row.name);if(row.isKept)row.outlive();else row.forget()}
+#dS(items){let aA=new Map([[null,[]]]),h=null;for(let row of this.#b){if(row.isGhost)aA.get(h).push(row);else if(this.#i.get(row.name)===row)aA.set((h=row),[])}
+return[...aA.get(null),...items.map(({name})=>this.#i.get(name)).flatMap(row=>[row,...(aA.get(row)??[])])]}
+#dT(before){let at=before.findIndex(({element})=>element.contains(document.activeElement));if(at<0||this.#b.includes(before[at]))return;let next=[...before.slice(at+1),...before.slice(0,at).reverse()].find(row=>this.#b.includes(row));(next?.element??this.list).focus()}
+#aQ(before,height){let first=this.#b.findIndex((row,at)=>row!==before[at]),f=first<0&&this.#b.length===before.length;if(f&&this.list.offsetHeight===height)return;let E=f||first>=0?this.#b.slice(Math.max(first,0)):[];for(let it of[...E,this.foot])it.movedAt=performance.now()}
+#dQ(a){if(a.detail===0)return;let bf=[...this.#b,this.foot].find(({element})=>element.contains(a.target)),cy=a.detail>1&&a.target.closest("button")!==null;if(a.type==="mousedown")this.#cJ=cy||(bf!==undefined&&this.hasJustMoved(bf));if(!this.#cJ)return;a.preventDefault();a.stopPropagation();if(!cy)cb(bf.element)}
+hasJustMoved(row){return performance.now()-row.movedAt<fl}
+relabel(row,label,step={}){let place=t(this.widget.items,row.name,0),before=this.widget.items[place]?.value;if(place<0||!this.edit([{verb:"rel",place,value:label}],step))return !1;this.#ad.made(row.name,this.page.editCount-1,before,step);row.show(label);return !0}
+#dU(row,way){let place=t(this.widget.items,row.name,0);if(place>=0)this.#aW(row,place,place+way)}
+moveBelow(row,rows){let{items,names}=this.widget,h=rows.findLast(it=>it!==row&&names.has(it.name)),place=t(items,row.name,0),at=h?t(items,h.name,0):-1;if(place>=0)this.#aW(row,place,at<place?at+1:at)}
+#aW(row,place,to){let{items}=this.widget,{value}=items[place],ops=place!==to&&items[to]?this.edit([{verb:"del",place},{verb:"ins",place:to,value}]):null;if(ops!==null)this.#M(row,ops[1].name);this.draw();row.element.scrollIntoView({block:"nearest"});this.page.say("move",`${value}, ${t(items, row.name, to) + 1} of ${items.length}`)}
+rowsAbove(height){let fn=({element})=>element.getBoundingClientRect().top+element.offsetHeight / 2;return this.#b.slice(0,1+this.#b.findLastIndex(row=>fn(row)<height))}
+markLanding(rows){for(let row of this.#b)row.element.classList.toggle("lands",row===rows?.at(-1));this.list.classList.toggle("lands",rows?.length===0)}
+remove(row){let place=t(this.widget.items,row.name,0);if(place<0||!this.edit([{verb:"del",place}]))return -1;row.forget();this.draw();return place}
+removeEmptied(row){let{label}=row,place=this.remove(row);if(place>=0)this.page.notices.add({view:this,words:`\u201c${label}\u201d is deleted, since you emptied it.`,choices:{"Add it again":()=>this.#Z(place,[label])}})}
+drop(row){row.forget();this.draw()}
+addAgain(row,label){let before=this.#b.slice(0,this.#b.indexOf(row)).findLast(it=>!it.isGhost),ops=this.edit([{verb:"ins",place:before?t(this.widget.items,before.name,0)+1:0,value:label}]);if(!ops)return !1;Object.assign(row,{name:ops[0].name,label,isGhost:!1});this.#i.set(row.name,row);this.draw();return !0}
+pasted(a,field,row){let text=a.clipboardData.getData("text/plain"),d=fb(field.value.slice(0,field.selectionStart)+text+field.value.slice(field.selectionEnd));if(d.length<2||field.readOnly)return;a.preventDefault();field.value=row?d.shift():"";field.dispatchEvent(new InputEvent("input"));this.#Z(row&&!row.isGhost?t(this.widget.items,row.name,0)+1:this.widget.items.length,d)}
+#Z(place,labels){let left=labels.filter(it=>K(it)===""),fo=labels.filter(it=>K(it)!==""),step={};for(let at=Math.min(place,this.widget.items.length);left.length>0;){let commands=left.slice(0,D).map((value,ad)=>({verb:"ins",place:at+ad,value}));if(!this.edit(commands,step))break;at+=commands.length;left.splice(0,commands.length)}
+this.draw();let rest=[...left,...fo];if(rest.length>0)this.page.notices.add({view:this,words:`${x(rest.length, "line")} could not be added.`,text:rest.join("\n")})}
+append(label){let cz=this.edit([{verb:"ins",place:this.widget.items.length,value:label}])!==null;if(cz)this.draw();return cz}
+hide(){for(let row of[...this.#b])row.send()}
+sendDrafts(){for(let row of this.#b.filter(({hasFocus})=>!hasFocus))row.send();if(!this.foot.hasFocus)this.foot.add()}
+get drafts(){return[...this.#b,this.foot].filter(it=>it.isDraft).map(({field})=>field.value)}
+close(){for(let row of this.#b)row.forget();this.foot.takeBack()}
+#bF(a){let row=this.#b.find(({element})=>element.contains(a.target));if(a.key in ARROWS&&row&&(a.altKey||a.target===row.handle.element)){a.preventDefault();return this.#dU(row,ARROWS[a.key])}
+if(a.target!==this.foot.field)return this.#cL(a);if(a.key==="Enter")return this.foot.add();return a.key==="Escape"?this.foot.takeBack():this.#cL(a)}
+#cL(a){let way={...ARROWS,Enter:1}[a.key],row=this.#b.find(({element,field})=>a.target===element||a.target===field);if(!way||!(row||a.target===this.foot.field))return;let fields=[...this.#b,this.foot].map(({field})=>field),next=a.target===row?.element?row.field:fields[fields.indexOf(a.target)+way];a.preventDefault();if(a.key==="Enter"&&row&&!row.isGood)return;next?.focus()}}
+class fp extends aw{constructor(...given){super(...given);this.box=b("input",{type:"checkbox",role:"switch",id:this.id,change:()=>this.edit([{verb:"set",value:this.box.checked}])||this.draw()});this.element=b("div",{className:"widget across"},this.head(this.label()),this.box);this.named();this.draw()}
+setOpen(isOpen){this.box.ariaDisabled=String(!isOpen)}
+draw(){this.box.checked=this.widget.value}}
+class fq extends aw{#bN=null;constructor(...given){super(...given);let{low:min,high:max}=this.widget;this.range=b("input",{type:"range",id:this.id,min,max,step:1,pointerdown:()=>(this.#bN={}),input:()=>this.#dV(),change:()=>this.#dW()});this.number=b("input",{type:"number",min,max,step:"any",change:()=>this.#y(),input:()=>(this.hint.hidden=!0)});this.hint=b("p",{className:"hint",textContent:`${min} to ${max}`,hidden:!0});this.element=b("div",{className:"widget"},this.head(this.label()),b("div",{className:"row wraps"},cA(min),this.range,cA(max),this.number),this.hint);this.named();this.draw()}
+named(){super.named();this.number.ariaLabel=`${this.name.textContent}, as a number`}
+setOpen(isOpen){this.range.ariaDisabled=String(!isOpen);this.number.readOnly=!isOpen}
+#dV(){this.number.value=this.range.value;this.frame??=requestAnimationFrame(()=>this.#bO(Number(this.range.value)))}
+#dW(){this.#bO(Number(this.range.value));this.#bN=null}
+#y(){let{low,high,value}=this.widget,C=this.number.valueAsNumber,bg=Number.isNaN(C)?value:Math.min(high,Math.max(low,Math.round(C)));this.hint.hidden=Number.isNaN(C)||bg===Math.round(C);if(!this.hint.hidden)this.page.say("bounds",this.hint.textContent);this.number.value=bg;this.#bO(bg)}
+#bO(value){cancelAnimationFrame(this.frame);this.frame=null;if(value!==this.widget.value)this.edit([{verb:"set",value}],this.#bN);this.draw()}
+get #cM(){return document.activeElement===this.number&&this.number.value!==this.shown}
+drops(field){if(field!==this.number||!this.#cM)return !1;this.number.value=this.shown;return !0}
+draw(){let fr=this.#cM;this.range.value=this.widget.value;if(!fr)this.number.value=this.widget.value;this.shown=this.range.value}}
+let cA=value=>b("span",{className:"bound",textContent:value,ariaHidden:"true"});class fs{#z=0;#ai=0;constructor(view,place,after,steps,how=null){Object.assign(this,{view,place,after,steps});this.how=typeof how==="string"&&steps.length>D?this:(how??this);this.#ai=place}
+get isDone(){return this.steps.length===0}
+get left(){return this.steps.length}
+get rest(){return this.steps.filter(({value})=>value!==undefined).map(({value})=>value)}
+get deletions(){return this.steps.length-this.rest.length}
+takeBack(edits){if(edits.length===0)return;let steps=edits.flatMap(({ops})=>ops).map(({verb,name,value})=>(verb==="ins"?{value}:{name}));this.steps.unshift(...steps);this.after=edits[0].after}
+next(){let{win,wid,widget}=this.view,commands=[],room=af-widget.items.length,start=this.#dX(widget.items),v=[],cB=place=>v.filter(it=>it<place).length,ft=0;this.place=start;this.#z=0;for(let{name,value}of this.steps.slice(0,D)){let cC=name===undefined;if(cC&&room--<=0&&commands.length>0)break;this.#z+=1;if(cC)commands.push({verb:"ins",win,wid,place:start-cB(start)+ft++,value});else{let found=t(widget.items,this.view.nameOf(name),this.#ai);if(found<0)continue;commands.push({verb:"del",win,wid,place:found-cB(found)});v.push(found);this.#ai=found;room+=1}}
+return commands}
+made(ops){this.steps.splice(0,this.#z);let h=ops.findLast(op=>op.verb==="ins");if(h)Object.assign(this,{after:h.name,place:h.place+1})}
+show(){Object.assign(this.view,{isStale:!0,caret:this.place})}
 end(){}
-#placeOfInsertion(items){if(this.after===null)return 0;
-const found=placeOf(items,this.after,this.place - 1);
-return found>=0?found + 1:Math.min(this.place,items.length);}}
-const LONG_PASTE=512;
-const COMPOSED=1000;
-const HOW={insertText:"type",insertLineBreak:"type",deleteContentBackward:"delete",deleteContentForward:"delete"};
-const DRAGS=["deleteByDrag","insertFromDrop"];
-class TextView extends View{caret=null;
-#word={};
-#later=0;
-#height="";
-constructor(...given){super(...given);
-this.area=make("textarea",{id:this.id,rows:3,dir:"auto",input:(event)=>(event.isComposing?this.#composes():this.#typed(this.#howOf(event))),focus:()=>this.#sizeAgain(),paste:(event)=>this.#pasted(event),compositionstart:()=>this.#beginsWord(),compositionend:()=>this.#composed(),});
-this.element=make("div",{className:"widget"},this.head(this.label(),this.copy),this.area);
-new IntersectionObserver(([{isIntersecting}])=>isIntersecting||this.#sizeAgain()).observe(this.area);
-this.named();
-this.#reset(0);}
-setOpen(isOpen){this.area.readOnly=!isOpen||this.page.isBusyWith(this);}
-forgetNames(){this.items=null;}
-#keep(items,shown){this.items=items;
-this.shown=shown;}
-#reset(cursor){this.#keep([...this.widget.items],textOf(this.widget.items));
-this.area.value=this.shown;
-this.area.setSelectionRange(cursor,cursor);}
-#beginsWord(){this.isHeld=true;
-this.#word={};}
-#composes(){clearTimeout(this.pause);
-this.pause=setTimeout(()=>this.items!==null&&this.#typed(this.#word),COMPOSED);}
-changed(){super.changed();
-if(!this.isHeld)return;
-this.#later +=1;
-this.after.textContent=`${counted(this.#later, "change")} ${this.#later === 1 ? "comes" : "come"} after this word`;}
-#composed(){clearTimeout(this.pause);
-this.isHeld=false;
-this.#later=0;
-this.after.textContent="";
-if(this.items!==null)this.#typed(this.#word);
-this.page.drawSoon();}
-#howOf({inputType}){return DRAGS.includes(inputType)?this.page.takingBack.drag:HOW[inputType];}
-#typed(how){this.#sizeAgain();
-const{value,selectionEnd}=this.area;
-const{head,tail}=difference(this.shown,value,selectionEnd);
-if(value!==this.shown)this.#replace(head,this.shown.length - tail,value.slice(head,value.length - tail),how);}
-#pasted(event){const text=event.clipboardData.getData("text/plain").replace(/\r\n?/g,"\n");
-if(text.length<=LONG_PASTE||this.area.readOnly)return;
-event.preventDefault();
-this.#replace(this.area.selectionStart,this.area.selectionEnd,text);}
-#replace(start,end,text,how){const[from,to]=[this.#place(start),this.#place(end)];
-const values=scalarsOf(text);
-const gone=this.items.slice(from,to).reverse();
-const steps=[...gone.map(({name})=>({name})),...values.map((value)=>({value}))];
-const job=new Job(this,from,this.items[from - 1]?.name??null,steps,how);
-if(!this.page.isShort(job)){this.#reset(start);
-this.page.begin(job);
-return;}
-const ops=this.page.run(job);
-if(ops===null){this.#reset(start);
-return;}
-const come=ops.filter((op)=>op.verb==="ins").map(({name,value})=>({name,value}));
-this.#keep([...this.items.slice(0,from),...come,...this.items.slice(to)],this.area.value);
-if(values.map(shownAs).join("")!==text)this.#show();}
-#place(offset){return this.shown.length===this.items.length?offset:Array.from(this.shown.slice(0,offset)).length;}
-#offset(place){return this.shown.length===this.items.length?place:textOf(this.items.slice(0,place)).length;}
-draw(){if(this.items===null)this.#showAgain();
-else this.#show();}
-reveal(name){const place=name?placeOf(this.widget.items,name,0)+ 1:0;
-if(name!==undefined)Object.assign(this,{caret:place,isStale:true});
-this.update();
-super.reveal();}
-#show(){const{selectionStart,selectionEnd,selectionDirection}=this.area;
-const end=this.caret??this.#after(this.#place(selectionEnd));
-const start=this.caret!==null||selectionStart===selectionEnd?end:Math.min(this.#before(this.#place(selectionStart)),end);
-this.caret=null;
-this.#put();
-this.#select(this.#offset(start),this.#offset(end),selectionDirection);}
-#showAgain(){const{selectionStart,selectionEnd,selectionDirection,value}=this.area;
-this.#keep([...this.widget.items],textOf(this.widget.items));
-const{head,tail}=difference(value,this.shown);
-this.#change(0,value,this.shown);
-const moved=(offset)=>(offset<=head?offset:offset>=value.length - tail?offset + this.shown.length - value.length:head);
-this.#select(moved(selectionStart),moved(selectionEnd),selectionDirection);}
-#put(){const{area}=this;
-const was=area.value;
-const[before,now]=this.isChanged?this.#anchor(this.#place(this.#topOffset())):[0,0];
-const top=this.#offset(before);
-this.#keep([...this.widget.items],textOf(this.widget.items));
-if(was===this.shown)return;
-const{scrollHeight}=area;
-if(this.isChanged)this.#keepHeight();
-const isInFront=this.#change(0,was.slice(0,top),this.shown.slice(0,this.#offset(now)));
-if(isInFront)area.scrollTop +=area.scrollHeight - scrollHeight;
-this.#change(this.#offset(now),was.slice(top),this.shown.slice(this.#offset(now)));}
-#change(offset,was,is){if(was===is)return false;
-const{head,tail}=difference(was,is);
-this.area.setRangeText(is.slice(head,is.length - tail),offset + head,offset + was.length - tail,"preserve");
-return true;}
-#keepHeight(){const{area}=this;
-const{top,bottom,height}=area.getBoundingClientRect();
-if(this.#height!==""||area.style.height!==""||bottom<0||top>innerHeight)return;
-this.#height=`${height}px`;
-area.style.height=this.#height;}
-#sizeAgain(){if(this.#height!==""&&this.area.style.height===this.#height)this.area.style.height="";
-this.#height="";}
-#topOffset(){const{area}=this;
-const{left,top}=area.getBoundingClientRect();
-const edge=Math.max(top,document.querySelector("header").offsetHeight);
-if(area.scrollTop===0&&edge===top)return 0;
-const{paddingLeft,lineHeight}=getComputedStyle(area);
-const found=document.caretPositionFromPoint?.(left + area.clientLeft + Number.parseFloat(paddingLeft)+ 1,edge + area.clientTop + Number.parseFloat(lineHeight)/ 2);
-return found?.offsetNode===area?found.offset:0;}
-#select(start,end,direction){const{area}=this;
-const isSame=start===area.selectionStart&&end===area.selectionEnd&&(start===end||direction===area.selectionDirection);
-if(document.activeElement===area&&!isSame)area.setSelectionRange(start,end,direction);}
-#after(place){const{items,names}=this.widget;
-for(let at=place - 1;at>=0;at--){const{name}=this.items[at];
-if(names.has(name))return placeOf(items,name,at)+ 1;}
-return 0;}
-#before(place){return this.#anchor(place)[1];}
-#anchor(place){const{items,names}=this.widget;
-for(let at=place;at<this.items.length;at++){const{name}=this.items[at];
-if(names.has(name))return[at,placeOf(items,name,at)];}
-return[this.items.length,items.length];}}
-const VIEWS={text:TextView,list:ListView,toggle:ToggleView,slider:SliderView};
-const KINDS={text:"Text",list:"List",toggle:"Toggle",slider:"Slider"};
-const EMPTY="Nothing here yet";
-const ADVICE="Whoever runs this server adds texts, lists, toggles and sliders: stop it, write lines such as these into the file of the board, and start it again.";
-const EXAMPLE='window 1\ntext 1 "Hi"\nlist 2 "bread" "milk"\ntoggle 3 off\nslider 4 0 10 5';
-class Windows{views=new Map();
-#page;
-#captions;
-#sections=new Map();
-constructor(page,captions){this.#page=page;
-this.#captions=readCaptions(captions);}
-captionOf(key,kind){return this.#captions.get(key)??`${KINDS[kind] ?? "Window"} ${key.split(".").at(-1)}`;}
-caption(text){this.#captions=readCaptions(text);
-for(const view of this.views.values())view.named();
-this.#name();}
-show(board,isSame){const before=new Map(this.views);
-this.views.clear();
-const sections=Array.from(board.windows,([win,widgets])=>this.#window(win,widgets,before,isSame));
-for(const[key,view]of before)if(this.views.get(key)!==view)this.#drop(view);
-arrange(found("board"),this.views.size>0?sections:[this.#nothing()]);
-this.#name();}
-#window(win,widgets,before,isSame){const heading=make("h2",{id:`window-${win}`,dir:"auto"});
-const section=this.#sections.get(win)??make("section",{"aria-labelledby":heading.id},heading);
-this.#sections.set(win,section);
-const views=Array.from(widgets,([wid,widget])=>this.#view(win,wid,widget,before,isSame));
-arrange(section,[section.firstChild,...views.map(({element})=>element)]);
-return section;}
-#view(win,wid,widget,before,isSame){const shape=({kind,low,high})=>[kind,low,high].join();
-const key=`${win}.${wid}`;
-const old=before.get(key);
-const isKept=old!==undefined&&shape(old.widget)===shape(widget);
-const view=isKept?old:new VIEWS[widget.kind](this.#page,win,wid,widget);
-if(isKept)view.rebind(widget,isSame);
-this.views.set(key,view);
-return view;}
-#drop(view){const{notices}=this.#page;
-for(const text of view.drafts)notices.add({words:view.name.textContent,text});
-notices.adopt(view.element);
-view.close();}
-#nothing(){return make("section",{},make("h2",{textContent:EMPTY}),make("p",{textContent:ADVICE}),make("pre",{textContent:EXAMPLE}));}
-#name(){const wins=[...this.#page.board.windows.keys()];
-for(const win of wins)this.#sections.get(win).firstChild.textContent=this.captionOf(String(win));
-found("title").textContent=this.#captions.get(String(wins[0]))??"Board";
-document.title=found("title").textContent;}}
-const SHORT=256;
-const JOB_SLICE=8;
-const SPARE=64;
-const NEEDED=SHORT / MOST_OPERATIONS;
-const WHO=5000;
-const REFUSALS=new Set([FAULT.LongText,FAULT.Backlog,FAULT.NoMemory,FAULT.Spent,FAULT.LogFull]);
-const isFull=(fault)=>fault===FAULT.Spent||fault===FAULT.LogFull;
-async function textAt(name){try{const answer=await fetch(new URL(name,location.href),{cache:"no-store"});
-return answer.ok?await answer.text():null;}catch{return null;}}
-class Page{drafts=new Held(()=>this.#tell());
-notices=new Notices(()=>this.#tell());
-takingBack=new TakingBack(this);
-isReadOnly=false;
-#windows;
-#drawing;
-#jobs=[];
-#untaken=new Untaken(this);
-#shown=null;
-#reasons=new Map();
-#isWaiting=false;
-#isWorking=false;
-#status=new Status();
-constructor(captions){this.#windows=new Windows(this,captions);
-this.#drawing=new Drawing(this.views);
-const address=new URL("ws",location.href);
-address.protocol=address.protocol.replace("http","ws");
-this.link=new Link(address.href,(what,it)=>this[what](it));
-this.#listen();
-openMenu(this,(isTelling)=>(this.#status.isTelling=isTelling));
-setInterval(()=>this.#countLinks(),WHO);}
-#listen(){addEventListener("pagehide",()=>this.#leave());
-addEventListener("pageshow",(event)=>event.persisted&&this.#comeBack());
-addEventListener("beforeunload",(event)=>this.#isSaved()||event.preventDefault());
-addEventListener("online",()=>this.link.hurry());
-document.addEventListener("visibilitychange",()=>(document.hidden?this.#hide():this.link.hurry()));
-for(const act of["keydown","pointerdown"])document.addEventListener(act,()=>this.link.isOpen||this.link.hurry());
-found("try-now").addEventListener("click",()=>this.link.hurry());
-found("notice-count").addEventListener("click",()=>this.notices.show());}
-get views(){return this.#windows.views;}
-get board(){return this.link.site.board;}
-get editCount(){return this.link.site.made;}
-nameOf(view,name){return this.takingBack.nameOf(view,name);}
-captionOf(key,kind){return this.#windows.captionOf(key,kind);}
-ready(){const{site}=this.link;
-const old=this.#shown;
-const isFirst=old===null;
-const isSame=!isFirst&&isSameRun(old,site);
-this.#shown=site;
-this.#isWaiting=false;
-this.#windows.show(this.board,isSame);
-if(!isFirst)this.takingBack.joined(old.board,isSame);
-this.#drawing.now();
-this.#jobs=this.#untaken.settle(isSame);
-this.#setOpen();
-if(!this.isReadOnly)for(const element of this.#reasons.values())this.notices.end(element);
-for(const view of this.views.values())view.sendDrafts();
-if(isFirst)this.#offerKept();
-else this.#readCaptions();
-this.#status.announce("link","Connected");
-this.#countLinks();
-this.#work();}
-made(it){this.takingBack.made(it);}
-came(it){this.takingBack.came(it);
-for(const op of it.raw)this.views.get(`${op.win}.${op.wid}`).came(op,it.heard);
-this.takingBack.mend();}
-changed(op){const view=this.views.get(`${op.win}.${op.wid}`);
-view.changed();
-this.#status.announce("changes",`Others changed ${view.name.textContent}`);}
-heard(){this.takingBack.mend();
-this.#drawing.soon();
-this.#work();
-this.#untaken.lookAgain();}
-confirmed(){this.#untaken.confirmed(this.link.confirmed);
-for(const view of this.views.values())view.confirmed(this.link.confirmed);
-this.#tell();}
-lost(fault){const isNew=this.#shown!==null&&!["lost","waiting"].includes(document.body.dataset.stage);
-this.isReadOnly=isFull(fault);
-this.#isWaiting=fault===FAULT.Full;
-if(fault!==undefined&&!this.#isWaiting)this.#explain(reasonOf(fault));
-this.takingBack.lost();
-this.#untaken.lose(this.link.site,this.#jobs);
-this.#jobs=[];
-this.#setOpen();
-this.#status.count(0);
-if(isNew)this.#status.announce("link","The connection is lost. This page joins again by itself");}
-edit(view,commands,how=null,job=null){if(!this.takesEdits)return null;
-const after=job?.after;
-try{const ops=this.link.edit(commands);
-this.takingBack.note(how);
-this.#untaken.add({ops,view,job,after});
-this.#tell();
-return ops;}catch(fault){if(!(fault instanceof Fault)||!REFUSALS.has(fault.number))throw fault;
-this.#refuse(fault.number,view,job);
-return null;}}
-#refuse(fault,view,job){const text=job?.rest.map(shownAs).join("")??"";
-if(text==="")this.#explain(reasonOf(fault),view);
-else this.notices.add({view,words:reasonOf(fault),text});
-if(isFull(fault))this.#closeForGood();}
-#closeForGood(){this.isReadOnly=true;
-this.#setOpen();}
-#explain(words,view=null){if(!this.#reasons.get(words)?.isConnected)this.#reasons.set(words,this.notices.add({view,words}));}
-isShort(job){return job.left<=SHORT&&!this.isBusyWith(job.view)&&this.#hasRoom(NEEDED);}
-run(job){const all=[];
-while(!job.isDone){const ops=this.#next(job);
-if(ops===null)return null;
-all.push(...ops);}
-return all;}
-begin(job){this.#jobs.push(job);
-this.#setOpen();
-this.#work();}
-stop(job){if(!this.#jobs.includes(job))return;
-this.#jobs=this.#jobs.filter((it)=>it!==job);
-job.end();
-this.#setOpen();}
-get takesEdits(){return this.link.isOpen&&!this.isReadOnly;}
-get isReady(){return this.takesEdits&&this.#hasRoom(NEEDED);}
-isBusyWith(view){return this.#jobs.some((job)=>job.view===view);}
-#hasRoom(edits){return this.link.site.backlog + edits<=MOST_WAITING;}
-#next(job){const commands=job.next();
-const ops=commands.length>0?this.edit(job.view,commands,job.how,job):[];
-if(ops!==null)job.made(ops);
-return ops;}
-#work(){if(this.#isWorking||this.#jobs.length===0||!this.link.isOpen)return;
-const end=performance.now()+ JOB_SLICE;
-while(this.#jobs.length>0&&this.#hasRoom(SPARE)&&performance.now()<end){const[job]=this.#jobs;
-const ops=this.#next(job);
-job.show();
-if(ops===null||job.isDone)this.stop(job);}
-this.#drawing.soon();
-this.#tell();
-this.#isWorking=this.#jobs.length>0&&this.#hasRoom(SPARE);
-if(this.#isWorking)later(()=>this.#goOn());}
-#goOn(){this.#isWorking=false;
-this.#work();}
-#isSaved(){const isSent=!this.#untaken.isPending&&this.#jobs.length===0&&this.link.confirmed===this.editCount;
-return isSent&&this.drafts.count===0&&!this.notices.isOffering;}
-#offerKept(){for(const{key,words,text}of this.notices.kept())this.notices.add({view:this.views.get(key),words,text});}
-#hide(){for(const view of this.views.values())view.hide();}
-#leave(){const words="You typed this here, and it was not sent.";
-this.notices.keep([...this.views.values()].flatMap(({key,drafts})=>drafts.map((text)=>({key,words,text}))));
-this.link.leave();}
-#comeBack(){this.notices.keep();
-this.lost();
-this.link.comeBack();}
-drawSoon(){this.#drawing.soon();}
-say(about,words,view=null){view?.remark(words);
-this.#status.announce(about,words);}
-#setOpen(){for(const view of this.views.values())view.setOpen(this.takesEdits);
-this.takingBack.tell();
-this.#tell();}
-#tell(){this.#status.tell({...this.#state,notices:this.notices.count});}
-get #state(){const left=this.#jobs.reduce((sum,job)=>sum + job.left,0);
-const waiting=this.editCount - this.link.confirmed;
-if(this.#isWaiting)return{stage:"waiting",words:"64 people are here. You come in when one leaves"};
-if(!this.link.isOpen)return{stage:"lost",words:"Offline"};
-if(left>0)return{stage:"sending",words:`${counted(left, "character")} to go`};
-if(waiting>0)return{stage:"sending",words:"Sending \u2026",slowly:`Sending \u2026 ${counted(waiting, "edit")} wait`,since:this.#untaken.oldest};
-if(this.isReadOnly)return{stage:"full",words:"Read only: the board is full"};
-return this.drafts.count>0?{stage:"draft",words:counted(this.drafts.count,"draft")}:{stage:"open",words:"Sent"};}
-async #readCaptions(){const text=await textAt("captions");
-if(text!==null)this.#windows.caption(text);}
-async #countLinks(){if(document.hidden||!this.link.isOpen)return;
-const[count,state]=(await textAt("who"))?.split("\n")??[];
-this.#status.count(this.link.isOpen?Number.parseInt(count,10):0);
-if(state!=="full"||this.isReadOnly)return;
-this.#explain(reasonOf(FAULT.LogFull));
-this.#closeForGood();}}
-new Page((await textAt("captions"))??"");
-</script>
+#dX(items){if(this.after===null)return 0;let found=t(items,this.view.nameOf(this.after),this.place-1);return found>=0?found+1:Math.min(this.place,items.length)}}
+let fu=512,fv=1000,fw={insertText:"type",insertLineBreak:"type",deleteContentBackward:"delete",deleteContentForward:"delete"},fx=["deleteByDrag","insertFromDrop"];class fy extends aw{caret=null;#bP={};#Q=0;#ak="";constructor(...given){super(...given);this.area=b("textarea",{id:this.id,rows:3,dir:"auto",input:a=>(a.isComposing?this.#dY():this.#y(this.#dZ(a))),focus:()=>this.#bQ(),paste:a=>this.#ea(a),compositionstart:()=>this.#eb(),compositionend:()=>this.#ec()});this.element=b("div",{className:"widget"},this.head(this.label(),this.copy),this.area);new IntersectionObserver(([{isIntersecting}])=>isIntersecting||this.#bQ()).observe(this.area);this.named();this.#bR(0)}
+setOpen(isOpen){this.area.readOnly=!isOpen||this.page.isBusyWith(this)}
+forgetNames(){this.items=null}
+#bb(items,shown){this.items=items;this.shown=shown}
+#bR(cursor){this.#bb([...this.widget.items],Q(this.widget.items));this.area.value=this.shown;this.area.setSelectionRange(cursor,cursor)}
+#eb(){this.isHeld=!0;this.#bP={}}
+#dY(){clearTimeout(this.pause);this.pause=setTimeout(()=>this.items!==null&&this.#y(this.#bP),fv)}
+changed(){super.changed();if(!this.isHeld)return;this.#Q+=1;this.after.textContent=`${x(this.#Q, "change")} ${this.#Q === 1 ? "comes" : "come"} after this word`}
+#ec(){clearTimeout(this.pause);this.isHeld=!1;this.#Q=0;this.after.textContent="";if(this.items!==null)this.#y(this.#bP);this.page.drawSoon()}
+#dZ({inputType}){return fx.includes(inputType)?this.page.takingBack.drag:fw[inputType]}
+goOn(){if(!this.isHeld)this.#y()}
+#y(how){this.#bQ();if(this.page.isJoining)return;let{value,selectionEnd}=this.area,{head,tail}=Y(this.shown,value,selectionEnd);if(value!==this.shown)this.#cN(head,this.shown.length-tail,value.slice(head,value.length-tail),how)}
+#ea(a){let text=a.clipboardData.getData("text/plain").replace(/\r\n?/g,"\n");if(text.length<=fu||this.area.readOnly||this.page.isJoining)return;a.preventDefault();this.#cN(this.area.selectionStart,this.area.selectionEnd,text)}
+#cN(start,end,text,how){let[from,to]=[this.#O(start),this.#O(end)],values=dK(text),v=this.items.slice(from,to).reverse(),steps=[...v.map(({name})=>({name})),...values.map(value=>({value}))],job=new fs(this,from,this.items[from-1]?.name??null,steps,how);if(!this.page.isShort(job)){this.#bR(start);this.page.begin(job);return}
+let ops=this.page.run(job);if(ops===null){this.#bR(start);return}
+let fz=ops.filter(op=>op.verb==="ins").map(({name,value})=>({name,value}));this.#bb([...this.items.slice(0,from),...fz,...this.items.slice(to)],this.area.value);if(values.map(G).join("")!==text)this.#aA()}
+#O(offset){return this.shown.length===this.items.length?offset:Array.from(this.shown.slice(0,offset)).length}
+#al(place){return this.shown.length===this.items.length?place:Q(this.items.slice(0,place)).length}
+draw(){if(this.items===null)this.#ed();else this.#aA()}
+reveal(name){let place=name?t(this.widget.items,name,0)+1:0;if(name!==undefined)Object.assign(this,{caret:place,isStale:!0});this.update();super.reveal()}
+#aA(){let{selectionStart,selectionEnd,selectionDirection}=this.area,end=this.caret??this.#ee(this.#O(selectionEnd)),start=this.caret!==null||selectionStart===selectionEnd?end:Math.min(this.#ef(this.#O(selectionStart)),end);this.caret=null;this.#E();this.#cO(this.#al(start),this.#al(end),selectionDirection)}
+#ed(){let{selectionStart,selectionEnd,selectionDirection,value}=this.area;this.#bb([...this.widget.items],Q(this.widget.items));let{head,tail}=Y(value,this.shown);this.#bS(0,value,this.shown);let E=offset=>(offset<=head?offset:offset>=value.length-tail?offset+this.shown.length-value.length:head);this.#cO(E(selectionStart),E(selectionEnd),selectionDirection)}
+#E(){let{area}=this,was=area.value,[before,now]=this.isChanged?this.#cP(this.#O(this.#eg())):[0,0],top=this.#al(before);this.#bb([...this.widget.items],Q(this.widget.items));if(was===this.shown)return;let{scrollHeight}=area;if(this.isChanged)this.#eh();let fA=this.#bS(0,was.slice(0,top),this.shown.slice(0,this.#al(now)));if(fA)area.scrollTop+=area.scrollHeight-scrollHeight;this.#bS(this.#al(now),was.slice(top),this.shown.slice(this.#al(now)))}
+#bS(offset,was,is){if(was===is)return !1;let{head,tail}=Y(was,is);this.area.setRangeText(is.slice(head,is.length-tail),offset+head,offset+was.length-tail,"preserve");return !0}
+#eh(){let{area}=this,{top,bottom,height}=area.getBoundingClientRect();if(this.#ak!==""||area.style.height!==""||bottom<0||top>innerHeight)return;this.#ak=`${height}px`;area.style.height=this.#ak}
+#bQ(){if(this.#ak!==""&&this.area.style.height===this.#ak)this.area.style.height="";this.#ak=""}
+#eg(){let{area}=this,{left,top}=area.getBoundingClientRect(),cD=Math.max(top,document.querySelector("header").offsetHeight);if(area.scrollTop===0&&cD===top)return 0;let{paddingLeft,lineHeight}=getComputedStyle(area),found=document.caretPositionFromPoint?.(left+area.clientLeft+Number.parseFloat(paddingLeft)+1,cD+area.clientTop+Number.parseFloat(lineHeight)/ 2);return found?.offsetNode===area?found.offset:0}
+#cO(start,end,cE){let{area}=this,f=start===area.selectionStart&&end===area.selectionEnd&&(start===end||cE===area.selectionDirection);if(document.activeElement===area&&!f)area.setSelectionRange(start,end,cE)}
+#ee(place){let{items,names}=this.widget;for(let at=place-1;at>=0;at--){let name=this.nameOf(this.items[at].name);if(names.has(name))return t(items,name,at)+1}
+return 0}
+#ef(place){return this.#cP(place)[1]}
+#cP(place){let{items,names}=this.widget;for(let at=place;at<this.items.length;at++){let name=this.nameOf(this.items[at].name);if(names.has(name))return[at,t(items,name,at)]}
+return[this.items.length,items.length]}}
+let fB={text:fy,list:fm,toggle:fp,slider:fq},fC={text:"Text",list:"List",toggle:"Toggle",slider:"Slider"},fD="Nothing here yet",fE="Whoever runs this server adds texts, lists, toggles and sliders: stop it, write lines such as these into the file of the board, and start it again.",fF='window 1\ntext 1 "Hi"\nlist 2 "bread" "milk"\ntoggle 3 off\nslider 4 0 10 5';class fG{views=new Map();#a;#bc;#bT=new Map();constructor(page,U){this.#a=page;this.#bc=bE(U)}
+captionOf(key,kind){return this.#bc.get(key)??`${fC[kind] ?? "Window"} ${key.split(".").at(-1)}`}
+caption(text){this.#bc=bE(text);for(let view of this.views.values())view.named();this.#aE()}
+show(board,f){let before=new Map(this.views);this.views.clear();let fH=Array.from(board.windows,([win,widgets])=>this.#S(win,widgets,before,f));for(let[key,view]of before)if(this.views.get(key)!==view)this.#q(view);ba(found("board"),this.views.size>0?fH:[this.#aB()]);this.#aE()}
+#S(win,widgets,before,f){let cF=b("h2",{id:`window-${win}`,dir:"auto"}),aB=this.#bT.get(win)??b("section",{"aria-labelledby":cF.id},cF);this.#bT.set(win,aB);let views=Array.from(widgets,([wid,widget])=>this.#ei(win,wid,widget,before,f));ba(aB,[aB.firstChild,...views.map(({element})=>element)]);return aB}
+#ei(win,wid,widget,before,f){let s=({kind,low,high})=>[kind,low,high].join(),key=`${win}.${wid}`,old=before.get(key),isKept=old!==undefined&&s(old.widget)===s(widget),view=isKept?old:new fB[widget.kind](this.#a,win,wid,widget);if(isKept)view.rebind(widget,f);this.views.set(key,view);return view}
+#q(view){let{notices}=this.#a;for(let text of view.drafts)notices.add({words:view.name.textContent,text});notices.adopt(view.element);view.close()}
+#aB(){return b("section",{},b("h2",{textContent:fD}),b("p",{textContent:fE}),b("pre",{textContent:fF}))}
+#aE(){let cG=[...this.#a.board.windows.keys()];for(let win of cG)this.#bT.get(win).firstChild.textContent=this.captionOf(String(win));found("title").textContent=this.#bc.get(String(cG[0]))??"Board";document.title=found("title").textContent}}
+let cH=256,fI=8,cI=64,cJ=cH / D,fJ=5000,fK=new Set([6,7,8,9,32]),fL="You typed this here, and it was not sent.",isFull=fault=>fault===9||fault===32,fM=new Set([null,30,35,36,42]);async function bh(name){try{let cK=await fetch(new URL(name,location.href),{cache:"no-store"});return cK.ok?await cK.text():null}catch{return null}}
+class fN{drafts=new cf(()=>this.#l());notices=new eH(()=>this.#l());takingBack=new eS(this);untaken=new eY(this);keeping=new ew(this);isReadOnly=!1;#aF;#am;#f=[];#b=null;#A=null;#bU=new Map();#bV=!1;#bd=!1;#J=new eI();constructor(U){this.#aF=new fG(this,U);this.#am=new dB(this.views);let O=new URL("ws",location.href);O.protocol=O.protocol.replace("http","ws");this.link=new dy(O.href,(what,it)=>this[what](it));this.#ej();eD(this,isTelling=>(this.#J.isTelling=isTelling));setInterval(()=>this.#bW(),fJ)}
+#ej(){addEventListener("pagehide",()=>this.#bM());addEventListener("pageshow",a=>a.persisted&&this.link.comeBack());addEventListener("beforeunload",a=>this.#ek()||this.keeping.isKeeping||a.preventDefault());addEventListener("online",()=>this.link.hurry(!0));document.addEventListener("visibilitychange",()=>(document.hidden?this.#el():this.link.hurry()));for(let fO of["keydown","pointerdown"])document.addEventListener(fO,()=>this.link.hurry());found("try-now").addEventListener("click",()=>this.link.hurry());found("notice-count").addEventListener("click",()=>this.notices.show())}
+get views(){return this.#aF.views}
+get board(){return this.link.site.board}
+get editCount(){return this.link.site.made}
+nameOf(view,name){return this.takingBack.nameOf(view,name)}
+captionOf(key,kind){return this.#aF.captionOf(key,kind)}
+ready(){let{site}=this.link,old=this.#b,isFirst=old===null,f=!isFirst&&site.site>old.site&&(this.#A.goesOn||bF(old,site)),goesOn=f&&old.stage==="open"&&!this.isReadOnly,taken=goesOn?(this.#A.taken??this.untaken.taken(old,site.board)):Infinity;if(!goesOn)this.#H(old);else{this.takingBack.lost();this.untaken.forget()}
+this.#b=site;this.#bV=!1;this.#aF.show(this.board,f);if(!isFirst)this.takingBack.joined(old.board,f,taken);this.#am.now();if(!goesOn)this.#f=this.untaken.settle(f);this.#aG();if(!this.isReadOnly)for(let element of this.#bU.values())this.notices.end(element);for(let view of this.views.values())view.sendDrafts();if(isFirst)this.keeping.open();else this.#em();this.#J.announce("link","Connected");this.#bW();this.#be()}
+made(it){this.takingBack.made(it)}
+came(it){this.takingBack.came(it);for(let op of it.raw)this.views.get(`${op.win}.${op.wid}`).came(op,it.heard);this.takingBack.mend()}
+changed(op){let view=this.views.get(`${op.win}.${op.wid}`);view.changed();this.#J.announce("changes",`Others changed ${view.name.textContent}`)}
+heard(){this.takingBack.mend();this.#am.soon();this.#be();this.untaken.lookAgain()}
+confirmed(){this.untaken.confirmed(this.link.confirmed);for(let view of this.views.values())view.confirmed(this.link.confirmed);this.#l()}
+carried(){this.#J.announce("link","Connected");this.#bW();this.#l()}
+cut(){this.#J.count(0);this.#J.announce("link",this.link.isOpen?"Offline. You can go on typing":"The connection is lost. This page joins again by itself");setTimeout(()=>this.#l(),this.link.grace);this.#l()}
+ended(it){this.#A=it}
+lost(fault){let fP=this.#b!==null&&!["lost","waiting","offline"].includes(document.body.dataset.stage);this.isReadOnly=isFull(fault);this.#bV=fault===30;if(!fM.has(fault))this.#bX(R(fault));if(!this.link.isOpen)this.#H(this.#b);this.#aG();if(fP)this.cut()}
+#H(old){this.takingBack.lost();this.untaken.lose(old,this.#f);this.#f=[]}
+edit(view,commands,how=null,job=null){if(!this.takesEdits)return null;let after=job?.after;try{let ops=this.link.edit(commands);this.takingBack.note(how);this.untaken.add({ops,took:this.takingBack.took,view,job,after});this.#l();return ops}catch(fault){if(!(fault instanceof aD)||!fK.has(fault.number))throw fault;this.#en(fault.number,view,job);return null}}
+#en(fault,view,job){let text=job?.rest.map(G).join("")??"";if(text==="")this.#bX(R(fault),view);else this.notices.add({view,words:R(fault),text});if(isFull(fault))this.#cQ()}
+#cQ(){this.isReadOnly=!0;this.#aG()}
+#bX(words,view=null){if(!this.#bU.get(words)?.isConnected)this.#bU.set(words,this.notices.add({view,words}))}
+isShort(job){return job.left<=cH&&!this.isBusyWith(job.view)&&this.#bf(cJ)}
+run(job){let A=[];while(!job.isDone){let ops=this.#aa(job);if(ops===null)return null;A.push(...ops)}
+return A}
+begin(job){if(job.isFirst)this.#f.unshift(job);else this.#f.push(job);this.#aG();this.#be()}
+stop(job){if(!this.#f.includes(job))return;this.#f=this.#f.filter(it=>it!==job);job.end();this.#am.now();this.#aG()}
+get takesEdits(){return this.link.isOpen&&!this.isReadOnly}
+get isReady(){return this.takesEdits&&this.#bf(cJ)}
+isBusyWith(view){return this.#f.some(job=>job.view===view&&!job.isFirst)}
+get isJoining(){return this.#f[0]?.isFirst??!1}
+#bf(edits){return this.link.site.backlog+edits<=ag}
+#aa(job){let commands=job.next(),ops=commands.length>0?this.edit(job.view,commands,job.how,job):[];if(ops!==null)job.made(ops);return ops}
+#be(){if(this.#bd||this.#f.length===0||!this.link.isOpen)return;let end=performance.now()+fI;while(this.#f.length>0&&this.#bf(cI)&&performance.now()<end){let[job]=this.#f,ops=this.#aa(job);job.show();if(ops===null||job.isDone)this.stop(job)}
+this.#am.soon();this.#l();this.#bd=this.#f.length>0&&this.#bf(cI);if(this.#bd)aI(()=>this.#aR())}
+#aR(){this.#bd=!1;this.#be()}
+#ek(){let fQ=!this.untaken.isPending&&this.#f.length===0&&this.untaken.waiting===0;return fQ&&this.drafts.count===0&&!this.notices.isOffering}
+get texts(){let drafts=[...this.views.values()].flatMap(({key,drafts})=>drafts.map(text=>[key,text])),rests=this.#f.filter(({rest})=>rest.length>0).map(({view,rest})=>[view.key,rest.map(G).join("")]);return[...this.notices.offers,...[...drafts,...rests].map(([key,text])=>({key,words:fL,text}))]}
+#el(){if(this.link.hasLeft)return;for(let view of this.views.values())view.hide();this.keeping.now()}
+#bM(){let[job]=this.#f;if(this.isJoining){this.run(job);this.stop(job)}
+this.keeping.now();this.link.leave()}
+drawSoon(){this.#am.soon()}
+say(about,words,view=null){view?.remark(words);this.#J.announce(about,words)}
+#aG(){for(let view of this.views.values())view.setOpen(this.takesEdits);this.takingBack.tell();this.#l()}
+#l(){this.#J.tell({...this.#eo,notices:this.notices.count});this.keeping.soon()}
+get #eo(){let left=this.#f.reduce((bc,job)=>bc+job.left,0),{waiting}=this.untaken,edits=`${x(waiting, "edit")} wait${waiting === 1 ? "s" : ""}`,isKept=this.link.isKept,cL=`${isKept ? "Saving" : "Sending"} \u2026`;if(this.#bV)return{stage:"waiting",words:"64 people are here. You come in when one leaves"};if(!this.link.isOpen)return{stage:"lost",words:"Offline"};if(!this.link.isCarried)return{stage:"offline",words:this.#ep(edits)};if(this.isJoining)return{stage:"joining",words:`Bringing in ${x(left, "character")} \u2026`};if(left>0)return{stage:"sending",words:`${x(left, "character")} to go`};if(waiting>0)return{stage:"sending",words:cL,slowly:`${cL} ${edits}`,since:this.untaken.oldest};if(this.isReadOnly)return{stage:"full",words:"Read only: the board is full"};return this.drafts.count>0?{stage:"draft",words:x(this.drafts.count,"draft")}:{stage:"open",words:isKept?"Saved":"Sent"}}
+#ep(edits){let{cutAt,grace}=this.link;if(Date.now()-cutAt>=grace)return `Offline since ${cutAt.toTimeString().slice(0, 5)}. What you type is kept here and goes to the board later`;return this.untaken.waiting>0?`Offline. ${edits} ${this.keeping.isRefused ? "in this tab" : "on this device"}`:"Offline"}
+async #em(){let text=await bh("captions");if(text!==null)this.#aF.caption(text)}
+async #bW(){if(document.hidden||!this.link.isCarried)return;let[count,state]=(await bh("who"))?.split("\n")??[];this.#J.count(this.link.isCarried?Number.parseInt(count,10):0);if(state!=="full"||this.isReadOnly)return;this.#bX(R(32));this.#cQ()}}
+new fN((await bh("captions"))??"");</script>
 </body>
 </html>
 "#;

@@ -10,11 +10,15 @@ use Rattle.jup_http.specs.declared.ending.Ending.{Ending}
 use Rattle.jup_http.specs.Frames.{answer_code}
 use Rattle.jup_http.specs.declared.refusal.Refusal.{Refusal}
 use Rattle.jup_http.specs.declared.refusal.Refusal.TheVariants.{Busy}
+use Rattle.jup_service.specs.declared.closing.Parted.{Parted}
+use Rattle.jup_service.specs.declared.closing.Parted.TheVariants.{Over, Away}
 use Rattle.jup_service.specs.declared.end.ServiceEnd.{ServiceEnd}
 use Rattle.jup_service.specs.declared.end.ServiceEnd.TheVariants.{NoOrigin, Io, BoardTaken, NoMemory, BadBoard, LongBoard, BadCaptions}
 use Rattle.jup_service.specs.declared.notices.Notice.{Notice}
 use Rattle.jup_service.specs.declared.notices.Notice.TheVariants.{SitesSpent, OrderFull, CannotAccept, CannotWrite}
 use Rattle.jup_service.specs.declared.notices.Told.{Told}
+use Rattle.jup_service.specs.declared.patience.Heard.{Heard}
+use Rattle.jup_service.specs.declared.patience.Heard.TheVariants.{Silence, Gone, Nothing}
 use Rattle.jup_service.specs.declared.opening.Opening.{Opening}
 use Rattle.jup_service.specs.declared.opening.Opening.TheVariants.{Request, Lines}
 use Rattle.jup_service.specs.declared.origins.Address.{Address}
@@ -57,6 +61,31 @@ abbrev pub close_code : Option Ending → Bool → Option ℕ
 close_code (Some ending) stops = answer_code ending
 close_code None true = Some 1001
 close_code None false = Some 1000
+
+-- whether a server parts without the last line of a session or of a link
+abbrev pub is_away : Parted → Bool
+is_away Over = false
+is_away Away = true
+
+-- the close of a WebSocket: how the browser's frames ended, if they have, and whether the server has sent its close
+pub record Closes : Type 0 where
+  pub ending : Option Ending
+  pub sent : Bool
+
+abbrev pub closes : Option Ending → Bool → Closes
+closes ending sent = record { ending = ending; sent = sent }
+
+-- How long links wait.
+
+-- seconds for which a server may be asked to let a link wait: a day
+abbrev pub most_grace : ℕ
+most_grace = 86400
+
+-- How long a browser may be silent.
+
+-- what it means that a browser has been silent for so many seconds
+abbrev pub heard_after : ℕ → Heard
+heard_after seconds = if seconds == 20 then Silence else (if seconds == 40 then Gone else Nothing)
 
 -- The exit statuses of a server of browsers.
 

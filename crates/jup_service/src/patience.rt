@@ -1,16 +1,18 @@
 //! How long a server of browsers waits for whom.
 ghost use Rattle.std.specs.IoError.{error_kind};
-ghost use Rattle.std.specs.Prelude.{◌≡◌, ◌+◌, ◌≤◌, ◌↔◌, Ok, Err, IfOk, IfErr, IsNone, IfSome};
+ghost use Rattle.std.specs.Prelude.{◌≡◌, ◌+◌, ◌≤◌, ◌↔◌, min, Ok, Err, IfOk, IfErr, IsNone, IfSome};
 ghost use Rattle.jup_io.specs.Patience.{IsWait};
+ghost use Rattle.jup_service.specs.Servers.{heard_after};
 
 use jup_io::has_waited;
 use std::io;
+use std::marker::Model;
 
 /// Milliseconds that the head of a request may take.
 const HEAD: u64 = 10_000;
 
 /// Seconds after which a browser that sends nothing is asked by a ping whether it is there, and after which it is given up once it was asked.
-pub const LONGEST_SILENCE: u64 = 20;
+const LONGEST_SILENCE: u32 = 20;
 
 /// How many milliseconds more the head of a request may take that has taken so many. `None` after 10 seconds.
 pub fn head_wait(elapsed: u64) -> Option<u64>
@@ -23,55 +25,74 @@ pub fn head_wait(elapsed: u64) -> Option<u64>
     Some(HEAD - elapsed)
 }
 
-/// What is known of a browser.
-#[derive(Clone, Copy, Debug, PartialEq, Eq)]
-pub enum Presence {
-    /// It has sent a byte since it was asked last.
-    Heard,
-    /// It was asked by a ping, and has sent nothing since then.
-    Asked,
-}
-
 /// What a read of a browser's bytes means.
 #[derive(Clone, Copy, Debug, PartialEq, Eq)]
 pub enum Heard {
     /// So many bytes came. None came at their end.
     Bytes(usize),
-    /// The browser was silent, and is to be asked by a ping.
+    /// None came for a second.
+    Nothing,
+    /// None came for 20 seconds: the browser is to be asked by a ping.
     Silence,
-    /// It was silent though it was asked: it is gone.
+    /// None came for 20 seconds after it was asked: it is gone.
     Gone,
 }
 
+/// For how many seconds a browser was silent. Contracts see that number.
+#[derive(Drop)]
+pub struct Presence {
+    silent: u32,
+}
+
+impl Model for Presence {
+    ghost use Rattle.std.specs.Prelude.{ℕ, ◌≤◌};
+
+    ghost Value = { ℕ };
+
+    ghost view = { λ presence. presence.silent };
+
+    ghost invariant = { λ presence. presence.silent ≤ 40 };
+}
+
 impl Presence {
-    /// Learns what a read came to that waits for a silence. A failure that is none of these waits says nothing of the browser.
+    /// It was heard.
+    pub fn new() -> Presence
+        ensures { result ≡ 0 }
+    {
+        Presence { silent: 0 }
+    }
+
+    /// Learns what a read came to that waits for a second. A failure that is no such wait says nothing of the browser.
     pub fn hear(&mut self, read: io::Result<usize>) -> io::Result<Heard>
-        ensures bytes { IfOk read (λ len. (result ≡ Ok (Heard.Bytes len)) × (self.new ≡ Presence.Heard)) }
-        ensures silence { IfErr read (λ error. IsWait (error_kind error) → self.old ≡ Presence.Heard
-            → (result ≡ Ok Heard.Silence) × (self.new ≡ Presence.Asked)) }
-        ensures gone { IfErr read (λ error. IsWait (error_kind error) → self.old ≡ Presence.Asked
-            → (result ≡ Ok Heard.Gone) × (self.new ≡ Presence.Asked)) }
+        ensures bytes { IfOk read (λ len. (result ≡ Ok (Heard.Bytes len)) × (self.new ≡ 0)) }
+        ensures waited { IfErr read (λ error. IsWait (error_kind error) → self.new ≡ min 40 (self.old + 1)) }
+        ensures heard { IfErr read (λ error. IsWait (error_kind error) → result ≡ Ok (heard_after self.new)) }
         ensures failed { IfErr read (λ error. (IsWait (error_kind error) → ⊥) → (result ≡ Err error) × (self.new ≡ self.old)) }
     {
         match read {
             Ok(len) => {
-                *self = Presence::Heard;
+                self.silent = 0;
                 Ok(Heard::Bytes(len))
             }
-            Err(error) if has_waited(&error) => Ok(self.after_silence()),
+            Err(error) if has_waited(&error) => Ok(self.wait_on()),
             Err(error) => Err(error),
         }
     }
 
-    // What a silence means: who was heard is to be asked, and who was asked is gone.
-    fn after_silence(&mut self) -> Heard
-        ensures asked { self.new ≡ Presence.Asked }
-        ensures silence { self.old ≡ Presence.Heard → result ≡ Heard.Silence }
-        ensures gone { self.old ≡ Presence.Asked → result ≡ Heard.Gone }
+    // One more second has passed in which nothing came.
+    fn wait_on(&mut self) -> Heard
+        ensures waited { self.new ≡ min 40 (self.old + 1) }
+        ensures heard { result ≡ heard_after self.new }
     {
-        match std::mem::replace(self, Presence::Asked) {
-            Presence::Heard => Heard::Silence,
-            Presence::Asked => Heard::Gone,
+        if self.silent < 2 * LONGEST_SILENCE {
+            self.silent += 1;
+        }
+        if self.silent == LONGEST_SILENCE {
+            Heard::Silence
+        } else if self.silent == 2 * LONGEST_SILENCE {
+            Heard::Gone
+        } else {
+            Heard::Nothing
         }
     }
 }

@@ -1,5 +1,5 @@
 //! The places of the connections that are open, and how many of them are links.
-ghost use Rattle.std.specs.Prelude.{◌≡◌, ◌<◌, ◌-◌, ◌+◌, None, Some, true, min, length, set, is_none, position, IfSome, IfNone};
+ghost use Rattle.std.specs.Prelude.{◌≡◌, ◌<◌, ◌-◌, ◌+◌, None, Some, true, min, length, set, is_none, position, slice_get, IfSome, IfNone, IsNone, ◌↔◌};
 ghost use Rattle.std.specs.List.{list_all};
 
 use std::array;
@@ -71,6 +71,14 @@ impl<T: Drop> Places<T> {
     {
         let Place { at } = place;
         self.held[at] = None;
+    }
+
+    /// What a place holds.
+    pub fn held(&self, place: &Place) -> Option<&T>
+        ensures none { IsNone result ↔ (slice_get self.now place.now ≡ Some None) }
+        ensures some { IfSome result (λ held. slice_get self.now place.now ≡ Some (Some held.now)) }
+    {
+        self.held[place.at].as_ref()
     }
 
     /// Whether all places are free.

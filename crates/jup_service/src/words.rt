@@ -2,6 +2,7 @@
 ghost use Rattle.std.specs.Prelude.{◌≡◌, ◌≤◌, true, IfOk, IfSome};
 ghost use Rattle.jup_limits.specs.Limits.{highest_limit};
 ghost use Rattle.jup_http.specs.Heads.{is_origin};
+ghost use Rattle.jup_service.specs.Servers.{most_grace};
 
 use jup_http::is_origin;
 use jup_limits::HIGHEST_LIMIT;
@@ -25,7 +26,13 @@ const LACKS: &str = "an option is missing";
 const BAD_ORIGIN: &str =
     "an origin is http:// or https:// and a host, with a port or without one, and no path";
 
-const OPTIONS: [OptionRow; 6] = [
+/// Seconds that a link may be asked to wait for its client to connect again: a day.
+const MOST_GRACE: u32 = 86_400;
+
+/// Seconds that a link waits if no other time is asked for.
+const USUAL_GRACE: u32 = 300;
+
+const OPTIONS: [OptionRow; 7] = [
     OptionRow {
         name: "listen",
         takes: Takes::Text("ADDR"),
@@ -62,6 +69,12 @@ const OPTIONS: [OptionRow; 6] = [
         is_required: false,
         help: "Where browsers find the server, as https://board.example",
     },
+    OptionRow {
+        name: "grace",
+        takes: Takes::Number(MOST_GRACE),
+        is_required: false,
+        help: "For how many seconds a link waits for its client to connect again, 0 to 86400; without it 300",
+    },
 ];
 
 /// What the command line asks of the server.
@@ -81,10 +94,30 @@ pub struct ServiceWords<'a> {
     pub origin: Option<&'a str>,
 }
 
+/// What the command line asks of the links of protocol 4.
+#[derive(Clone, Copy, Debug, PartialEq, Eq)]
+pub struct LinkWords {
+    /// For how many seconds a link waits for its client to connect again.
+    pub grace: u32,
+}
+
 /// Reads the arguments after the program's name.
 pub fn service_words<'a>(alloc: Global, words: &'a [String]) -> Result<ServiceWords<'a>, Unread>
     ensures limit { IfOk result (λ w. (1 ≤ w.limit) × (w.limit ≤ highest_limit)) }
     ensures origin { IfOk result (λ w. IfSome w.origin (λ o. is_origin o.now ≡ true)) }
+{
+    let (told, _) = lasting_service_words(alloc, words)?;
+    Ok(told)
+}
+
+/// Reads the same arguments, and answers also what they ask of links.
+pub fn lasting_service_words<'a>(
+    alloc: Global,
+    words: &'a [String],
+) -> Result<(ServiceWords<'a>, LinkWords), Unread>
+    ensures limit { IfOk result (λ told. (1 ≤ told.0.limit) × (told.0.limit ≤ highest_limit)) }
+    ensures origin { IfOk result (λ told. IfSome told.0.origin (λ o. is_origin o.now ≡ true)) }
+    ensures grace { IfOk result (λ told. told.1.grace ≤ most_grace) }
 {
     let line = CommandLine {
         program: "jupweb",
@@ -96,23 +129,26 @@ pub fn service_words<'a>(alloc: Global, words: &'a [String]) -> Result<ServiceWo
     told_by(&given).map_err(|reason| line.refusal(alloc, reason))
 }
 
-// What the options ask of the server, or why they ask for nothing.
-fn told_by<'a>(given: &Given<'a>) -> Result<ServiceWords<'a>, &'static str>
-    ensures limit { IfOk result (λ w. (1 ≤ w.limit) × (w.limit ≤ highest_limit)) }
-    ensures origin { IfOk result (λ w. IfSome w.origin (λ o. is_origin o.now ≡ true)) }
+// What the options ask of the server and of its links, or why they ask for nothing.
+fn told_by<'a>(given: &Given<'a>) -> Result<(ServiceWords<'a>, LinkWords), &'static str>
+    ensures limit { IfOk result (λ told. (1 ≤ told.0.limit) × (told.0.limit ≤ highest_limit)) }
+    ensures origin { IfOk result (λ told. IfSome told.0.origin (λ o. is_origin o.now ≡ true)) }
+    ensures grace { IfOk result (λ told. told.1.grace ≤ most_grace) }
 {
     let (Some(listen), Some(board)) = (given.text("listen"), given.text("board")) else {
         return Err(LACKS);
     };
     let limit = given.count("limit", HIGHEST_LIMIT);
-    Ok(ServiceWords {
+    let told = ServiceWords {
         listen,
         board,
         limit: limit.unwrap_or(HIGHEST_LIMIT),
         page: given.text("page"),
         captions: given.text("captions"),
         origin: origin_of(given.text("origin"))?,
-    })
+    };
+    let grace = given.number("grace", MOST_GRACE).unwrap_or(USUAL_GRACE);
+    Ok((told, LinkWords { grace }))
 }
 
 fn origin_of(origin: Option<&str>) -> Result<Option<&str>, &'static str>

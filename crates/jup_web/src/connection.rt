@@ -3,25 +3,25 @@ ghost use Rattle.std.specs.Prelude.{◌≡◌, ◌≤◌, ◌++◌, length, IfOk
 ghost use Rattle.jup_http.specs.Heads.{refusal_head, refusal_body};
 ghost use Rattle.jup_hub.specs.Passes.{IsPassOf};
 
-use crate::browser::{BrowserBytes, UntilStopped};
-use crate::session::{Service, run_session};
-use crate::stop::Stop;
-use crate::turn::{BROWSER_PATIENCE, InTurn};
+use crate::browser::BrowserSocket;
+use crate::caller::{Call, LineBytes};
+use crate::calls::serve_call;
+use crate::connections::Visit;
+use crate::session::Service;
+use crate::turn::BROWSER_PATIENCE;
 use jup_http::{
-    Ending, LONGEST_HEAD, Media, MessageReader, MessageWriter, Refusal, Request, body_head,
-    put_close, read_request, refusal_body, refusal_head,
+    LONGEST_HEAD, Media, Refusal, Request, body_head, read_request, refusal_body, refusal_head,
 };
 use jup_hub::Pass;
 use jup_io::{has_waited, is_interrupted};
-use jup_service::{
-    LONGEST_SILENCE, Notice, Opening, close_code, head_wait, opening_of, surplus_refusal, who_text,
-};
+use jup_service::{Notice, Opening, head_wait, opening_of, surplus_refusal, who_text};
 use jup_session::{Outgoing, hang_up};
 use std::alloc::{AllocError, Global};
 use std::io;
 use std::io::{ErrorKind, Read, Write};
 use std::net::{Shutdown, TcpStream};
-use std::sync::{Mutex, Wait};
+use std::random::RandomSource;
+use std::sync::Wait;
 use std::thread::Threads;
 use std::time::{Clock, Duration, Instant};
 use websocket::handshake::server::write_response;
@@ -33,10 +33,11 @@ enum Head {
 }
 
 /// Serves a connection to its end.
-pub(crate) fn serve_connection<R: Threads + Wait + Clock + Eprint + Sync>(
+pub(crate) fn serve_connection<R: Threads + Wait + Clock + RandomSource + Eprint + Sync>(
     rt: &R,
     service: &Service<'_>,
     stream: &TcpStream,
+    visit: Visit<'_, R>,
     pass: Pass,
 )
     requires { IsPassOf service.now.hub.now pass }
@@ -44,10 +45,12 @@ pub(crate) fn serve_connection<R: Threads + Wait + Clock + Eprint + Sync>(
     let _ = stream.set_nodelay(true);
     let mut head = [0u8; LONGEST_HEAD];
     match read_head(rt, service.origins, stream, &mut head) {
-        Ok((len, Head::Lines)) => serve_lines(rt, service, stream, &head[..len], pass),
+        Ok((len, Head::Lines)) => {
+            return serve_lines(rt, service, stream, visit, &head[..len], pass);
+        }
         Ok((_, Head::Request(Request::Link(key)))) => {
             if greet(service.alloc, stream, &key).is_ok() {
-                serve_browser(rt, service, stream, pass);
+                return serve_browser(rt, service, stream, visit, pass);
             }
         }
         Ok((_, Head::Request(request))) => {
@@ -56,6 +59,7 @@ pub(crate) fn serve_connection<R: Threads + Wait + Clock + Eprint + Sync>(
         Err(_) => {}
     }
     hang_up(rt, stream);
+    drop(visit);
 }
 
 // Reads until it is clear what comes, and answers how many bytes were read.
@@ -117,20 +121,49 @@ fn head_of(bytes: &[u8], origins: &[&[u8]]) -> Option<Head> {
     }
 }
 
-// Serves a session whose first bytes were read.
-fn serve_lines<R: Threads + Wait + Clock + Eprint + Sync>(
+// Serves what a connection by lines carries, whose first bytes were read.
+fn serve_lines<R: Threads + Wait + Clock + RandomSource + Eprint + Sync>(
     rt: &R,
     service: &Service<'_>,
     stream: &TcpStream,
+    visit: Visit<'_, R>,
     first: &[u8],
     pass: Pass,
 )
     requires { IsPassOf service.now.hub.now pass }
 {
-    let _ = stream.set_read_timeout(None);
-    let reader = first.chain(UntilStopped::new(rt, service.stop, stream));
-    let writer = Outgoing::new(stream, Outgoing::PATIENCE);
-    run_session(rt, service, reader, writer, pass);
+    let call = Call {
+        from: LineBytes::new(rt, service.stop, first, stream),
+        to: Outgoing::new(stream, Outgoing::PATIENCE),
+        connection: stream,
+        stream,
+        visit,
+    };
+    serve_call(rt, service, call, pass);
+}
+
+// Serves what the messages of a browser carry.
+fn serve_browser<R: Threads + Wait + Clock + RandomSource + Eprint + Sync>(
+    rt: &R,
+    service: &Service<'_>,
+    stream: &TcpStream,
+    visit: Visit<'_, R>,
+    pass: Pass,
+)
+    requires { IsPassOf service.now.hub.now pass }
+{
+    let socket = BrowserSocket::new(rt, service.alloc, stream);
+    let (Ok(from), Ok(to)) = (socket.reader(service.stop), socket.writer()) else {
+        return;
+    };
+    let call = Call {
+        from,
+        to,
+        connection: &socket,
+        stream,
+        visit,
+    };
+    serve_call(rt, service, call, pass);
 }
 
 // Answers a request that does not ask for a link.
@@ -196,61 +229,4 @@ fn greet(alloc: Global, stream: &TcpStream, key: &[u8; 28]) -> io::Result<()> {
     }
     let mut to = Outgoing::new(stream, BROWSER_PATIENCE);
     to.write_all(&head)
-}
-
-// Serves a session whose lines are the payloads of messages, and sends the close after it.
-fn serve_browser<R: Threads + Wait + Clock + Eprint + Sync>(
-    rt: &R,
-    service: &Service<'_>,
-    stream: &TcpStream,
-    pass: Pass,
-)
-    requires { IsPassOf service.now.hub.now pass }
-{
-    let _ = stream.set_read_timeout(Some(Duration::from_secs(LONGEST_SILENCE)));
-    let turn = Mutex::new(());
-    let turn = &turn;
-    if let Ok(ending) = serve_messages(rt, service, stream, turn, pass) {
-        let code = close_code(ending, service.stop.is_told(rt));
-        let _ = send_close(
-            service.alloc,
-            &mut InTurn::of_browser(rt, turn, stream),
-            code,
-        );
-    }
-}
-
-// Serves a session whose lines are the payloads of messages, and answers how the browser's frames ended, if they have.
-fn serve_messages<R: Threads + Wait + Clock + Eprint + Sync>(
-    rt: &R,
-    service: &Service<'_>,
-    stream: &TcpStream,
-    turn: &Mutex<()>,
-    pass: Pass,
-) -> Result<Option<Ending>, AllocError>
-    requires { IsPassOf service.now.hub.now pass }
-{
-    let writer = MessageWriter::new(service.alloc, InTurn::of_browser(rt, turn, stream))?;
-    let mut reader = messages_of(rt, service.alloc, service.stop, stream, turn)?;
-    run_session(rt, service, &mut reader, writer, pass);
-    Ok(reader.ending())
-}
-
-// The payloads of the messages that a browser sends.
-fn messages_of<'a, R: Wait>(
-    rt: &'a R,
-    alloc: Global,
-    stop: &'a Stop,
-    stream: &'a TcpStream,
-    turn: &'a Mutex<()>,
-) -> Result<MessageReader<BrowserBytes<'a, R>, InTurn<'a, R, Outgoing<'a>>>, AllocError> {
-    let from = UntilStopped::new(rt, stop, stream);
-    let bytes = BrowserBytes::new(alloc, from, InTurn::of_browser(rt, turn, stream))?;
-    MessageReader::new(alloc, bytes, InTurn::of_browser(rt, turn, stream))
-}
-
-fn send_close<O: Write>(alloc: Global, to: &mut O, code: Option<u16>) -> io::Result<()> {
-    let mut frame = Vec::new(alloc);
-    put_close(code, &mut frame)?;
-    to.write_all(&frame)
 }

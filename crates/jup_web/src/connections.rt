@@ -4,10 +4,18 @@ use jup_service::{Linked, Links, Place, Places};
 use std::net::{Shutdown, TcpStream};
 use std::sync::{Mutex, Wait};
 
+/// A connection that is open.
+#[derive(Drop)]
+struct Socket {
+    stream: TcpStream,
+    /// Whether it carries a link.
+    carries: Mutex<bool>,
+}
+
 /// The connections that are open.
 #[derive(Drop)]
 pub(crate) struct Connections {
-    sockets: Mutex<Places<TcpStream>>,
+    sockets: Mutex<Places<Socket>>,
     links: Mutex<Links>,
 }
 
@@ -29,6 +37,16 @@ impl<'a, R: Wait> Drop for Visit<'a, R> {
     }
 }
 
+impl<'a, R: Wait> Visit<'a, R> {
+    /// The connection carries a link from here on.
+    pub(crate) fn begin_carrying(&self) {
+        let sockets = self.connections.sockets.lock(self.rt);
+        if let Some(socket) = sockets.held(&self.place) {
+            *socket.carries.lock(self.rt) = true;
+        }
+    }
+}
+
 impl Connections {
     pub(crate) fn new() -> Connections {
         Connections {
@@ -43,8 +61,11 @@ impl Connections {
         rt: &'a R,
         stream: &TcpStream,
     ) -> Option<Visit<'a, R>> {
-        let handle = stream.try_clone().ok()?;
-        let place = self.sockets.lock(rt).enter(handle)?;
+        let socket = Socket {
+            stream: stream.try_clone().ok()?,
+            carries: Mutex::new(false),
+        };
+        let place = self.sockets.lock(rt).enter(socket)?;
         Some(Visit {
             rt,
             connections: self,
@@ -56,11 +77,31 @@ impl Connections {
         self.sockets.lock(rt).are_free()
     }
 
-    /// Shuts a side of each socket, or both.
-    pub(crate) fn shut<R: Wait>(&self, rt: &R, side: Shutdown) {
+    /// Ends the bytes of each connection that carries no link.
+    pub(crate) fn end_bytes<R: Wait>(&self, rt: &R) {
         let sockets = self.sockets.lock(rt);
         for socket in sockets.as_slice().iter().flatten() {
-            let _ = socket.shutdown(side);
+            if !*socket.carries.lock(rt) {
+                let _ = socket.stream.shutdown(Shutdown::Read);
+            }
+        }
+    }
+
+    /// Cuts each connection that carries a link.
+    pub(crate) fn cut_carriers<R: Wait>(&self, rt: &R) {
+        let sockets = self.sockets.lock(rt);
+        for socket in sockets.as_slice().iter().flatten() {
+            if *socket.carries.lock(rt) {
+                let _ = socket.stream.shutdown(Shutdown::Both);
+            }
+        }
+    }
+
+    /// Cuts all connections.
+    pub(crate) fn cut<R: Wait>(&self, rt: &R) {
+        let sockets = self.sockets.lock(rt);
+        for socket in sockets.as_slice().iter().flatten() {
+            let _ = socket.stream.shutdown(Shutdown::Both);
         }
     }
 

@@ -4,6 +4,8 @@
 #![tactic(auto)]
 
 mod browser;
+mod caller;
+mod calls;
 mod connection;
 mod connections;
 mod keeping;

@@ -1,5 +1,5 @@
 //! The server's run.
-ghost use Rattle.std.specs.Prelude.{◌≤◌, IfOk};
+ghost use Rattle.std.specs.Prelude.{◌≡◌, ◌≤◌, IfOk};
 ghost use Rattle.jup_hub.specs.Passes.{IsPassOf};
 
 use crate::connection::{serve_connection, turn_away};
@@ -11,16 +11,19 @@ use crate::session::Service;
 use crate::setup::{Door, OpenedBoard, Setup, prepare, slices};
 use crate::stop::Stop;
 use crate::telling::{tell, tell_unread};
+use jup_carrier::{Links, Uptime};
 use jup_hub::{Hub, Pass};
 use jup_service::{
-    Attempt, Farewell, KeptBoard, Notice, Parting, ServiceEnd, notice_of_accept, service_words,
+    Attempt, Farewell, KeptBoard, LinkWords, Notice, Parting, ServiceEnd, lasting_service_words,
+    notice_of_accept,
 };
 use jup_session::Bell;
 use jup_xform::NoMemory;
 use std::alloc::Global;
 use std::fs::{File, Files};
 use std::io::{BufReader, Read};
-use std::net::{Net, Shutdown, TcpListener, TcpStream};
+use std::net::{Net, TcpListener, TcpStream};
+use std::random::RandomSource;
 use std::sync::Wait;
 use std::thread::Threads;
 use std::time::{Clock, Duration};
@@ -28,6 +31,9 @@ use std::{io, thread};
 
 /// Milliseconds after which the server tries again to accept a connection.
 const ACCEPT_PAUSE: u64 = 100;
+
+/// Seconds between two looks at the links.
+const LOOK: u64 = 1;
 
 /// Serves as the arguments say, with this page if they name no other, until a line `stop` comes on the input. It answers the exit status:
 ///
@@ -42,6 +48,7 @@ pub fn web_main<
         + Threads
         + Wait
         + Clock
+        + RandomSource
         + Print
         + Eprint
         + Sync,
@@ -49,11 +56,11 @@ pub fn web_main<
 >(rt: &R, alloc: Global, words: &[String], page: &[u8], input: I) -> u8
     ensures { result ≤ 5 }
 {
-    let told = match service_words(alloc, words) {
+    let (told, links) = match lasting_service_words(alloc, words) {
         Ok(told) => told,
         Err(unread) => return tell_unread(rt, &unread),
     };
-    let served = match prepare(rt, alloc, &told) {
+    let served = match prepare(rt, alloc, &told, links) {
         Ok(setup) => serve(rt, alloc, setup, page, input),
         Err(end) => Err(end),
     };
@@ -65,7 +72,7 @@ pub fn web_main<
 
 // Serves until a stop, and keeps the board.
 fn serve<
-    R: Files<File = File> + Threads + Wait + Clock + Print + Eprint + Sync,
+    R: Files<File = File> + Threads + Wait + Clock + RandomSource + Print + Eprint + Sync,
     I: Read + Send + Drop,
 >(rt: &R, alloc: Global, setup: Setup, page: &[u8], input: I) -> Result<(), ServiceEnd> {
     let Setup {
@@ -93,7 +100,7 @@ fn serve<
 
 // Serves the hub of a board until a stop, and keeps the board.
 fn serve_hub<
-    R: Files<File = File> + Threads + Wait + Clock + Print + Eprint + Sync,
+    R: Files<File = File> + Threads + Wait + Clock + RandomSource + Print + Eprint + Sync,
     I: Read + Send + Drop,
 >(
     rt: &R,
@@ -108,7 +115,11 @@ fn serve_hub<
 ) -> Result<(), ServiceEnd>
     requires { IsPassOf hub.now pass }
 {
-    let Door { listener, origins } = door;
+    let Door {
+        listener,
+        origins,
+        links,
+    } = door;
     let origins = slices(alloc, origins.as_slice())?;
     let Ok(input) = BufReader::new(alloc, input) else {
         return Err(ServiceEnd::NoMemory);
@@ -124,6 +135,7 @@ fn serve_hub<
         bell: &Bell::new(),
         stop: &stop,
         connections: &Connections::new(),
+        links: &links_of(rt, alloc, links),
         notices: &Notices::new(),
         origins: &origins,
         page,
@@ -132,9 +144,16 @@ fn serve_hub<
     serve_and_save(rt, &service, listener, input, &mut board, pass)
 }
 
+// No link yet. Each will wait for as long as the command line says.
+fn links_of(clock: &impl Clock, alloc: Global, words: LinkWords) -> Links
+    ensures { result ≡ words.grace }
+{
+    Links::new(alloc, words.grace, Uptime::new(clock))
+}
+
 // Serves until a stop, and writes the board at last.
 fn serve_and_save<
-    R: Files<File = File> + Threads + Wait + Clock + Print + Eprint + Sync,
+    R: Files<File = File> + Threads + Wait + Clock + RandomSource + Print + Eprint + Sync,
     I: Read + Send + Drop,
 >(
     rt: &R,
@@ -192,10 +211,10 @@ fn save_last<R: Wait, F: Files<File = File>>(
     }
 }
 
-// Runs a thread that accepts connections and one for the operator, and keeps the board in this one. It returns once all have ended,
+// Runs a thread that accepts connections, one for the operator and one that looks at links, and keeps the board in this one. It returns once all have ended,
 // after a stop, or because a thread could not be started. The board may have changed in both cases.
 fn serve_all<
-    R: Threads + Wait + Clock + Print + Eprint + Sync,
+    R: Threads + Wait + Clock + RandomSource + Print + Eprint + Sync,
     F: Files<File = File>,
     I: Read + Send + Drop,
 >(
@@ -236,6 +255,10 @@ fn serve_all<
                 service.stop.tell(rt);
                 return (pass, Err(ServiceEnd::NoMemory));
             }
+            if scope.spawn(move || tend_links(rt, service)).is_err() {
+                service.stop.tell(rt);
+                return (pass, Err(ServiceEnd::NoMemory));
+            }
             keep(rt, files, service, board, &mut pass);
             (pass, Ok(()))
         },
@@ -243,7 +266,7 @@ fn serve_all<
 }
 
 // Accepts connections, each in a thread of its own, until a stop. It returns once all have ended.
-fn accept_all<R: Threads + Wait + Clock + Eprint + Sync>(
+fn accept_all<R: Threads + Wait + Clock + RandomSource + Eprint + Sync>(
     rt: &R,
     service: &Service<'_>,
     listener: TcpListener,
@@ -265,17 +288,14 @@ fn accept_all<R: Threads + Wait + Clock + Eprint + Sync>(
                 let child = scope.spawn(
                     move ||
                         requires { IsPassOf service.now.hub.now theirs }
-                    {
-                        serve_connection(rt, service, &stream, theirs);
-                        drop(visit);
-                    },
+                    { serve_connection(rt, service, &stream, visit, theirs) },
                 );
                 if child.is_err() {
                     service.notices.tell(rt, Notice::CannotAccept);
                 }
             }
             drop(listener);
-            end_connections(rt, service.connections);
+            end_connections(rt, service);
         },
     )
 }
@@ -309,16 +329,33 @@ fn next_connection<'a, R: Wait + Clock + Eprint>(
     unreachable!()
 }
 
-// Ends the connections that are open: first as if their clients were gone, and after five seconds regardless of what they do.
-fn end_connections<R: Wait + Clock>(rt: &R, connections: &Connections) {
-    connections.shut(rt, Shutdown::Read);
+// Looks at the links each second, until a stop.
+fn tend_links<R: Wait + Clock>(rt: &R, service: &Service<'_>) {
+    for _ in rt.forever() {
+        if service.stop.wait(rt, Duration::from_secs(LOOK)) {
+            return;
+        }
+        service.links.tend(rt);
+    }
+}
+
+// Ends the links and the connections that are open: first as if their clients were gone. After two seconds it cuts those that carry links, and after five seconds all,
+// regardless of what they do.
+fn end_connections<R: Wait + Clock>(rt: &R, service: &Service<'_>) {
+    service.links.stop(rt);
+    service.connections.end_bytes(rt);
     let mut farewell = Farewell::new();
     for _ in rt.forever() {
-        match farewell.after_look(connections.are_none(rt)) {
+        match farewell.after_look(service.connections.are_none(rt)) {
             Parting::Over => return,
             Parting::Pause(pause) => thread::sleep(rt, Duration::from_millis(pause)),
+            Parting::CutCarriers(pause) => {
+                service.links.lose_all(rt);
+                service.connections.cut_carriers(rt);
+                thread::sleep(rt, Duration::from_millis(pause));
+            }
             Parting::Cut => {
-                connections.shut(rt, Shutdown::Both);
+                service.connections.cut(rt);
                 return;
             }
         }

@@ -1,7 +1,7 @@
 //! What a server reads and finds out before it serves.
 use jup_service::{
-    Address, Attempt, FiledText, KeptFile, ServiceEnd, ServiceWords, check_captions, own_origins,
-    star_of_printed,
+    Address, Attempt, FiledText, KeptFile, LinkWords, ServiceEnd, ServiceWords, check_captions,
+    own_origins, star_of_printed,
 };
 use jup_star::Star;
 use std::alloc::{AllocError, Global};
@@ -39,6 +39,7 @@ pub(crate) struct Bodies {
 pub(crate) struct Door {
     pub(crate) listener: TcpListener,
     pub(crate) origins: Vec<String>,
+    pub(crate) links: LinkWords,
 }
 
 /// Reads the files, in this order: board, captions, page. Then it listens.
@@ -46,10 +47,11 @@ pub(crate) fn prepare<R: Net<Listener = TcpListener, Stream = TcpStream> + Files
     rt: &R,
     alloc: Global,
     told: &ServiceWords<'_>,
+    links: LinkWords,
 ) -> Result<Setup, ServiceEnd> {
     let board = open_board(rt, alloc, told)?;
     let bodies = read_bodies(rt, alloc, told)?;
-    let door = open_door(rt, alloc, told)?;
+    let door = open_door(rt, alloc, told, links)?;
     Ok(Setup {
         board,
         bodies,
@@ -81,10 +83,15 @@ fn open_door<R: Net<Listener = TcpListener, Stream = TcpStream>>(
     rt: &R,
     alloc: Global,
     told: &ServiceWords<'_>,
+    links: LinkWords,
 ) -> Result<Door, ServiceEnd> {
     let listener = listen(rt, told)?;
     let origins = origins_of(alloc, told, &listener)?;
-    Ok(Door { listener, origins })
+    Ok(Door {
+        listener,
+        origins,
+        links,
+    })
 }
 
 // Reads all of the file that the command line names; `None` if it names none.

@@ -1,5 +1,4 @@
-use Rattle.std.proofs.Common.{◌≡◌, ◌+◌, ◌≤◌, drop}
-use Rattle.std.specs.Prelude.{count_by}
+use Rattle.std.specs.Prelude.{count_by, ◌≡◌, ◌+◌, ◌≤◌, drop}
 use Rattle.websocket.specs.Headers.{fields_of}
 use Rattle.jup_http.specs.Heads.{is_named}
 use Rattle.jup_http.proofs.origins.count_named.Given as goal

@@ -1,5 +1,4 @@
-use Rattle.std.proofs.Common.{◌≡◌, drop}
-use Rattle.std.specs.Prelude.{codes}
+use Rattle.std.specs.Prelude.{codes, ◌≡◌, drop}
 use Rattle.websocket.specs.Headers.{fields_of}
 use Rattle.jup_http.specs.Heads.{each_value, is_own_host}
 use Rattle.jup_http.proofs.origins.each_host_is_own.Given as goal

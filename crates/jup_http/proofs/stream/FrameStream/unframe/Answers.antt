@@ -1,5 +1,4 @@
-use Rattle.std.proofs.Common.{◌∙◌, refl, take}
-use Rattle.std.specs.Prelude.{map}
+use Rattle.std.proofs.Common.{◌∙◌, refl, take, map}
 use Rattle.jup_http.specs.Streams.{brought}
 use Rattle.jup_http.specs.Events.{standing, told_by_event}
 use Rattle.jup_http.proofs.Frames.{put_more}

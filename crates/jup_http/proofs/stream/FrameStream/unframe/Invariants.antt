@@ -1,5 +1,4 @@
-use Rattle.std.proofs.Common.{◌≡◌, ◌≤◌, ℕ, List, ◌++◌, length, drop, take}
-use Rattle.std.specs.Prelude.{map}
+use Rattle.std.specs.Prelude.{map, ◌≡◌, ◌≤◌, ℕ, List, ◌++◌, length, drop, take}
 use Rattle.jup_http.specs.Streams.{brought, tells}
 use Rattle.jup_http.specs.Events.{standing}
 use Rattle.jup_http.proofs.stream.FrameStream.unframe.Given as goal

@@ -1,0 +1,2 @@
+mod KeyringReadings
+mod Readings

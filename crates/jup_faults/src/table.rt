@@ -28,6 +28,8 @@ pub enum Fault {
     NoSuchLink = 35,
     BadTaken = 36,
     LinesSpent = 37,
+    NoSuchBoard = 38,
+    NotAllowed = 39,
     BadLine = 40,
     LongLine = 41,
     BadVersion = 42,
@@ -35,6 +37,8 @@ pub enum Fault {
     Misplaced = 44,
     BadItemName = 45,
     ReadsSpent = 46,
+    NoRoom = 48,
+    UnreadableBoard = 49,
     BadLimit = 50,
     BadSite = 51,
     GateShut = 60,
@@ -43,7 +47,7 @@ pub enum Fault {
 }
 
 /// Each fault.
-const FAULTS: [Fault; 31] = [
+const FAULTS: [Fault; 35] = [
     Fault::NoMemory,
     Fault::DoubleId,
     Fault::TooMany,
@@ -63,6 +67,8 @@ const FAULTS: [Fault; 31] = [
     Fault::NoSuchLink,
     Fault::BadTaken,
     Fault::LinesSpent,
+    Fault::NoSuchBoard,
+    Fault::NotAllowed,
     Fault::BadLine,
     Fault::LongLine,
     Fault::BadVersion,
@@ -70,6 +76,8 @@ const FAULTS: [Fault; 31] = [
     Fault::Misplaced,
     Fault::BadItemName,
     Fault::ReadsSpent,
+    Fault::NoRoom,
+    Fault::UnreadableBoard,
     Fault::BadLimit,
     Fault::BadSite,
     Fault::GateShut,
@@ -107,6 +115,8 @@ impl Fault {
             Fault::NoSuchLink => "no such link",
             Fault::BadTaken => "not a count of lines that this end can have",
             Fault::LinesSpent => "all lines of the link were put",
+            Fault::NoSuchBoard => "no such board, or not its key",
+            Fault::NotAllowed => "the key does not allow that",
             Fault::BadLine => "no line of the protocol",
             Fault::LongLine => "256 bytes without the end of a line",
             Fault::BadVersion => "a greeting of another version",
@@ -114,6 +124,8 @@ impl Fault {
             Fault::Misplaced => "a line out of its place",
             Fault::BadItemName => "the item is not named as its place asks",
             Fault::ReadsSpent => "all reads were made",
+            Fault::NoRoom => "no room for another board or link",
+            Fault::UnreadableBoard => "the board can't be read",
             Fault::BadLimit => "the limit is not 1 to 16,777,216",
             Fault::BadSite => "not a number or a board of this site",
             Fault::GateShut => "the gate stayed shut",

@@ -18,7 +18,7 @@ use Rattle.jup_keys.specs.declared.request.Source.TheVariants as source
 use Rattle.jup_keys.specs.declared.request.Request.{Request}
 use Rattle.jup_keys.specs.declared.request.Request.TheVariants.{Open, Make, Owner, Templates, News, Keys}
 use Rattle.jup_keys.specs.declared.answer.Answer.{Answer}
-use Rattle.jup_keys.specs.declared.answer.Answer.TheVariants.{May, Run, Key, Create, Template}
+use Rattle.jup_keys.specs.declared.answer.Answer.TheVariants.{May, MayMake, Run, Key, Create, Template}
 
 -- Two texts with a separator between them.
 
@@ -187,6 +187,7 @@ no_keys = no_first (codes "keys") 107 refl (λ e. omega (arith, e)) (λ e. omega
 
 answer_lacks : (note : Answer) → Lacks 32 (answer_word note)
 answer_lacks (May right) = (λ e. omega (arith, e), (λ e. omega (arith, e), (λ e. omega (arith, e), tt)))
+answer_lacks MayMake = (λ e. omega (arith, e), (λ e. omega (arith, e), (λ e. omega (arith, e), tt)))
 answer_lacks (Run name) = (λ e. omega (arith, e), (λ e. omega (arith, e), (λ e. omega (arith, e), tt)))
 answer_lacks (Key right key) = (λ e. omega (arith, e), (λ e. omega (arith, e), (λ e. omega (arith, e), tt)))
 answer_lacks (Create makers) = (λ e. omega (arith, e), (λ e. omega (arith, e), (λ e. omega (arith, e), (λ e. omega (arith, e), (λ e. omega (arith, e), (λ e. omega (arith, e), tt))))))
@@ -194,6 +195,7 @@ answer_lacks (Template name) = (λ e. omega (arith, e), (λ e. omega (arith, e),
 
 pub none_key : (fields : List ℕ) → ((right : Right) (key : List ℕ) → IsTokenText key → fields ≢ right_word right ++ 32 ∷ key) → IsAnswerBehind (codes "key") fields None
 none_key fields none (May right) is = absurd (differ (codes "may") (codes "key") (λ long head. omega (arith, head)) is.1)
+none_key fields none MayMake is = absurd (differ (codes "may") (codes "key") (λ long head. omega (arith, head)) is.1)
 none_key fields none (Run name) is = absurd (differ (codes "run") (codes "key") (λ long head. omega (arith, head)) is.1)
 none_key fields none (Key right key) is = none right key is.0
 none_key fields none (Create makers) is = absurd (differ (codes "create") (codes "key") (λ long head. omega (arith, long)) is.1)

@@ -1,16 +1,21 @@
 -- The notes by which a board is opened, each in its one spelling.
-use Rattle.std.specs.Prelude.{◌≡◌, ◌≢◌, ℕ, List, [], ◌∷◌, ◌++◌, codes, Option}
+use Rattle.std.specs.Prelude.{◌≡◌, ◌≢◌, ℕ, List, [], ◌∷◌, ◌++◌, codes, decimal, Option}
+use Rattle.std.specs.List.{flat_map}
 use Rattle.jup_number.specs.Numbers.{IsReadingOf}
+use Rattle.jup_resume.specs.Texts.{spelled}
 use Rattle.jup_resume.specs.Tokens.{IsTokenText}
 use Rattle.jup_keys.specs.Ids.{IsIdText}
 use Rattle.jup_keys.specs.Makings.{makers_word, IsTemplateText}
+use Rattle.jup_keys.specs.declared.makers.Makers.{Makers}
+use Rattle.jup_keys.specs.declared.news.BoardNews.{BoardNews}
+use Rattle.jup_keys.specs.declared.news.BoardNews.TheVariants.{Links, Full}
 use Rattle.jup_keys.specs.Rights.{right_word}
 use Rattle.jup_keys.specs.declared.request.Source.{Source}
 use Rattle.jup_keys.specs.declared.request.Source.TheVariants as source
 use Rattle.jup_keys.specs.declared.request.Request.{Request}
 use Rattle.jup_keys.specs.declared.request.Request.TheVariants.{Open, Make, Owner, Templates, News, Keys}
 use Rattle.jup_keys.specs.declared.answer.Answer.{Answer}
-use Rattle.jup_keys.specs.declared.answer.Answer.TheVariants.{May, Run, Key, Create, Template}
+use Rattle.jup_keys.specs.declared.answer.Answer.TheVariants.{May, MayMake, Run, Key, Create, Template}
 use Rattle.jup_keys.specs.declared.opening.Opening.{Opening}
 use Rattle.jup_keys.specs.declared.opening.Opening.TheVariants as opening
 
@@ -95,6 +100,7 @@ IsRequestBehind word fields read = IsReadingOf request_fields (λ note. HasField
 -- the first word of a note
 abbrev pub answer_word : Answer → List ℕ
 answer_word (May right) = codes "may"
+answer_word MayMake = codes "may"
 answer_word (Run name) = codes "run"
 answer_word (Key right key) = codes "key"
 answer_word (Create makers) = codes "create"
@@ -103,6 +109,7 @@ answer_word (Template name) = codes "template"
 -- what comes after that word and a space
 abbrev pub answer_fields : Answer → List ℕ
 answer_fields (May right) = right_word right
+answer_fields MayMake = codes "owner"
 answer_fields (Run name) = name
 answer_fields (Key right key) = right_word right ++ 32 ∷ key
 answer_fields (Create makers) = makers_word makers
@@ -115,6 +122,7 @@ answer_text note = answer_word note ++ 32 ∷ answer_fields note
 -- a note that can be spelled
 abbrev pub IsAnswer : Answer → Type 0
 IsAnswer (May right) = Unit {0}
+IsAnswer MayMake = Unit {0}
 IsAnswer (Run name) = IsTokenText name
 IsAnswer (Key right key) = IsTokenText key
 IsAnswer (Create makers) = Unit {0}
@@ -123,6 +131,17 @@ IsAnswer (Template name) = IsTemplateText name
 -- the note that was read has this word, and these fields after it; with none read, no note has them
 abbrev pub IsAnswerBehind : List ℕ → List ℕ → Option Answer → Type 0
 IsAnswerBehind word fields read = IsReadingOf answer_fields (λ note. IsAnswer note × (answer_word note ≡ word)) fields read
+
+-- What a server says of a board while it is open.
+
+-- the one spelling of a note, without its line feed
+abbrev pub news_text : BoardNews → List ℕ
+news_text (Links count) = codes "links " ++ decimal count
+news_text Full = codes "full"
+
+-- the whole answer to `templates`: who makes boards, and from which templates
+abbrev pub offer_text : Makers → List (List ℕ) → List ℕ
+offer_text makers names = spelled (answer_text (Create makers)) ++ (flat_map (λ name. spelled (answer_text (Template name))) names ++ spelled (codes "end"))
 
 -- What a first line asks for.
 

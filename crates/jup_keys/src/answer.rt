@@ -19,6 +19,8 @@ use std::alloc::{AllocError, Global};
 pub enum Answer {
     /// `may own`, `may edit` or `may read`: what the key that was shown allows.
     May { right: Right },
+    /// `may owner`: the client has shown the key of the server's owner, and may make boards.
+    MayMake,
     /// `run HEX`: what names the time for which the board is open, spelled as a token.
     Run { name: Token },
     /// `key own KEY`, `key edit KEY` or `key read KEY`: a key of the board, and its right.
@@ -55,6 +57,7 @@ impl Answer {
     {
         match self {
             Answer::May { right } => format!(in alloc; "may {right}\n"),
+            Answer::MayMake => format!(in alloc; "may owner\n"),
             Answer::Run { name } => format!(in alloc; "run {name}\n"),
             Answer::Key { right, key } => format!(in alloc; "key {right} {}\n", key.token()),
             Answer::Create { makers } => format!(in alloc; "create {makers}\n"),
@@ -88,6 +91,9 @@ fn read_behind(word: &[u8], fields: &[u8]) -> Option<Answer>
 fn read_may(fields: &[u8]) -> Option<Answer>
     ensures { IsAnswerBehind (codes "may") fields.now result }
 {
+    if fields == b"owner".as_slice() {
+        return Some(Answer::MayMake);
+    }
     Some(Answer::May {
         right: Right::read(fields)?,
     })

@@ -1,5 +1,5 @@
 -- The heads of requests and answers.
-use Rattle.std.specs.Prelude.{◌≡◌, ℕ, ◌≤◌, ◌⊎◌, Bool, true, false, cond, not, ◌&&◌, ◌||◌, ◌==◌, List, [], ◌∷◌, take, drop, length, map, codes, bytes_eq, count_by, Result, Ok, Err, MatchBool, ◌++◌, decimal}
+use Rattle.std.specs.Prelude.{◌≡◌, ℕ, ◌≤◌, ◌⊎◌, Bool, true, false, cond, not, ◌&&◌, ◌||◌, ◌==◌, List, [], ◌∷◌, take, drop, length, map, codes, bytes_eq, count_by, Result, Ok, Err, MatchBool, MatchResult, ◌++◌, decimal}
 use Rattle.std.specs.Char.{is_ascii_alphanumeric}
 use Rattle.std.specs.List.{list_all, list_any, flat_map}
 use denote.Ref.{Bor}
@@ -89,6 +89,11 @@ upgrade_refusal (Http _) = NoUpgrade
 upgrade_refusal InvalidHeader = NoUpgrade
 upgrade_refusal OutOfMemory = NoUpgrade
 
+-- an upgrade to a WebSocket of version 13 with a valid key is accepted by the key's value
+abbrev pub Upgrades : Result (List ℕ) HandshakeError → Result (List ℕ) Refusal → Type 0
+Upgrades (Ok key) accepted = (IsValidKey key × (accepted ≡ Ok (accept_key_of key))) ⊎ ((¬ (IsValidKey key)) × (accepted ≡ Err NoUpgrade))
+Upgrades (Err e) accepted = accepted ≡ Err (upgrade_refusal e)
+
 -- a link is given for a valid key of an upgrade to a WebSocket of version 13
 abbrev pub AsksLink : Result (List ℕ) HandshakeError → Request → Type 0
 AsksLink (Ok key) request =
@@ -101,6 +106,15 @@ AsksTarget target key request =
     (MatchBool (bytes_eq target (codes "/captions")) (request ≡ Captions)
     (MatchBool (bytes_eq target (codes "/who")) (request ≡ Who)
     (MatchBool (bytes_eq target (codes "/ws")) (AsksLink key request)
+    (request ≡ Refused NoPage))))
+
+-- the same by what accepts the upgrade, or by why it is refused
+abbrev pub AsksAt : List ℕ → Result (List ℕ) Refusal → Request → Type 0
+AsksAt target accepted request =
+    MatchBool (bytes_eq target (codes "/")) (request ≡ Page)
+    (MatchBool (bytes_eq target (codes "/captions")) (request ≡ Captions)
+    (MatchBool (bytes_eq target (codes "/who")) (request ≡ Who)
+    (MatchBool (bytes_eq target (codes "/ws")) (MatchResult accepted (λ key. request ≡ Link key) (λ refusal. request ≡ Refused refusal))
     (request ≡ Refused NoPage))))
 
 -- what a request with this method, target, minor version and header lines asks of a server with these origins

@@ -2,6 +2,7 @@
 //! Nothing here knows what these bytes mean.
 #![tactic(auto)]
 
+mod asked;
 mod breach;
 mod ending;
 mod frame;
@@ -18,6 +19,7 @@ mod texts;
 mod whole;
 mod writer;
 
+pub use asked::{Asked, BadHead, LONGEST_HEAD, MOST_FIELDS, read_asked};
 pub use breach::Breach;
 pub use ending::Ending;
 pub use frame::LONGEST_MESSAGE;
@@ -26,7 +28,7 @@ pub use laws::{bad_headers_are_refused, frames_arrive, limits_are_stated, utf8_i
 pub use origins::is_origin;
 pub use reader::MessageReader;
 pub use refusal::Refusal;
-pub use request::{LONGEST_HEAD, MOST_FIELDS, Request, read_request};
+pub use request::{Request, read_request};
 pub use responses::{Media, body_head, refusal_body, refusal_head};
 pub use sending::{put_close, put_ping, put_pong, put_text};
 pub use stream::{Event, FrameStream, Unframed};

@@ -1,24 +1,12 @@
 //! What the head of a request asks for.
-ghost use Rattle.std.specs.Prelude.{◌≡◌, ◌≤◌, ◌<◌, ◌⊎◌, ℕ, List, length, take, map, IsNone, IfSome, IsSomeAnd};
+ghost use Rattle.std.specs.Prelude.{◌≡◌, ◌≤◌, ◌<◌, ◌⊎◌, ℕ, List, length, map, IsNone, IfSome, IsSomeAnd, MatchBool};
 ghost use Rattle.httparse.specs.Grammar.{RequestHead, ReadsRequest, MayBecomeRequest};
-ghost use Rattle.httparse.specs.Spans.{span_bytes, name_and_value, IsRequestWithin};
-ghost use Rattle.websocket.specs.Headers.{fields_of};
-ghost use Rattle.websocket.specs.Handshake.{requested_key};
+ghost use Rattle.httparse.specs.Spans.{name_and_value};
 ghost use Rattle.jup_http.specs.Frames.{longest_head, most_fields};
-ghost use Rattle.jup_http.specs.Heads.{Asks, AsksTarget, AsksLink, IsAsked, upgrade_refusal};
+ghost use Rattle.jup_http.specs.Heads.{Asks, AsksAt, IsAsked};
 
 use crate::Refusal;
-use crate::origins::is_own;
-use httparse::Status;
-use httparse::spans::{EMPTY_HEADER_SPAN, HeaderSpan, RequestSpans, parse_request};
-use websocket::handshake::HandshakeError;
-use websocket::handshake::server::check_request;
-
-/// Bytes that the head of a request may have.
-pub const LONGEST_HEAD: usize = 8_192;
-
-/// Header lines that a head may have.
-pub const MOST_FIELDS: usize = 64;
+use crate::asked::{Asked, BadHead, read_asked};
 
 /// What a request asks for.
 #[derive(Clone, Copy, Debug, PartialEq, Eq)]
@@ -45,39 +33,30 @@ pub fn read_request(bytes: &[u8], origins: &[&[u8]]) -> Option<Request>
     ensures unfinished { IsNone result → MayBecomeRequest bytes.now }
     ensures bounded { IsNone result → length bytes.now < longest_head }
 {
-    let mut spans = [EMPTY_HEADER_SPAN; MOST_FIELDS];
-    match parse_request(bytes, &mut spans) {
-        Ok(Status::Complete(request)) => Some(judge_request(bytes, &request, &spans, origins)),
-        Ok(Status::Partial) if bytes.len() < LONGEST_HEAD => None,
-        Ok(Status::Partial) | Err(_) => Some(Request::Refused(Refusal::BadHead)),
+    match read_asked(bytes, origins)? {
+        Ok(asked) => Some(judge(&asked)),
+        Err(BadHead) => Some(Request::Refused(Refusal::BadHead)),
     }
 }
 
-fn judge_request(
-    bytes: &[u8],
-    request: &RequestSpans,
-    spans: &[HeaderSpan],
-    origins: &[&[u8]],
-) -> Request
-    requires { IsRequestWithin bytes.now spans.now request.now }
-    ensures { Asks origins.now (span_bytes bytes.now request.now.method) (span_bytes bytes.now request.now.path) request.now.version
-        (fields_of bytes.now (take request.now.headers spans.now)) result }
+// What a request asks for by its head.
+fn judge(asked: &Asked<'_>) -> Request
+    ensures { MatchBool asked.now.is_own
+        (MatchBool asked.now.is_get (AsksAt asked.now.target.now asked.now.upgrade result) (result ≡ Request.Refused Refusal.BadMethod))
+        (result ≡ Request.Refused Refusal.Foreign) }
 {
-    if !is_own(bytes, &spans[..request.headers], origins) {
+    if !asked.is_own {
         return Request::Refused(Refusal::Foreign);
     }
-    if request.method.of(bytes) != b"GET".as_slice() {
+    if !asked.is_get {
         return Request::Refused(Refusal::BadMethod);
     }
-    judge_target(bytes, request, spans)
+    judge_target(asked.target, asked.upgrade)
 }
 
-fn judge_target(bytes: &[u8], request: &RequestSpans, spans: &[HeaderSpan]) -> Request
-    requires { IsRequestWithin bytes.now spans.now request.now }
-    ensures { AsksTarget (span_bytes bytes.now request.now.path) (requested_key (span_bytes bytes.now request.now.method) request.now.version
-        (fields_of bytes.now (take request.now.headers spans.now))) result }
+fn judge_target(target: &[u8], upgrade: Result<[u8; 28], Refusal>) -> Request
+    ensures { AsksAt target.now upgrade result }
 {
-    let target = request.path.of(bytes);
     if target == b"/".as_slice() {
         return Request::Page;
     }
@@ -88,27 +67,10 @@ fn judge_target(bytes: &[u8], request: &RequestSpans, spans: &[HeaderSpan]) -> R
         return Request::Who;
     }
     if target == b"/ws".as_slice() {
-        return judge_upgrade(bytes, request, spans);
+        return match upgrade {
+            Ok(key) => Request::Link(key),
+            Err(refusal) => Request::Refused(refusal),
+        };
     }
     Request::Refused(Refusal::NoPage)
-}
-
-fn judge_upgrade(bytes: &[u8], request: &RequestSpans, spans: &[HeaderSpan]) -> Request
-    requires { IsRequestWithin bytes.now spans.now request.now }
-    ensures { AsksLink (requested_key (span_bytes bytes.now request.now.method) request.now.version
-        (fields_of bytes.now (take request.now.headers spans.now))) result }
-{
-    match check_request(bytes, request, spans) {
-        Ok(key) => Request::Link(key),
-        Err(error) => Request::Refused(upgrade_refusal(error)),
-    }
-}
-
-fn upgrade_refusal(error: HandshakeError) -> Refusal
-    ensures { result ≡ upgrade_refusal error }
-{
-    match error {
-        HandshakeError::MissingSecWebSocketVersionHeader => Refusal::OtherVersion,
-        _ => Refusal::NoUpgrade,
-    }
 }

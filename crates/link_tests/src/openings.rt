@@ -24,6 +24,7 @@ fn answers_are_read_and_written(rt: HostRuntime) {
         "may own",
         "may edit",
         "may read",
+        "may owner",
         "run 0f1e2d3c4b5a69788796a5b4c3d2e1f0",
         "key own 0f1e2d3c4b5a69788796a5b4c3d2e1f0",
         "key edit d8b6e1b0b7063243c4d9b1a13ea11803",

@@ -17,9 +17,8 @@ MOST_HOLDING, MOST_COUNTS, DAY = 64, 4096, 86_400
 TICK, MOST_STOPPING = 0.05, 5
 
 
-def first_bytes(connection):
-    """What a connection begins with, up to where that says which protocol it is of."""
-    data = b""
+def first_bytes(connection, data=b""):
+    """What a connection begins with, up to where that says which protocol it is of. `data` has been read already."""
     while any(len(data) < len(it) and it.startswith(data) for it in BEGINNINGS):
         piece = connection.recv(65536)
         if not piece:
@@ -28,10 +27,10 @@ def first_bytes(connection):
     return data
 
 
-def first_line(connection, data):
-    """The first line of protocol 4 that begins with these bytes, and what was read after it. The line is None if it is too long, too late, or not whole."""
-    until = time.monotonic() + FIRST_SECONDS
-    while b"\n" not in data[:MOST_FIRST] and len(data) < MOST_FIRST and (left := until - time.monotonic()) > 0:
+def first_line(connection, data, most=MOST_FIRST, seconds=FIRST_SECONDS):
+    """A line of at most so many bytes that begins with these bytes, and what was read after it. The line is None if it is too long, too late, or not whole."""
+    until = time.monotonic() + seconds
+    while b"\n" not in data[:most] and len(data) < most and (left := until - time.monotonic()) > 0:
         connection.settimeout(left)
         try:
             piece = connection.recv(65536)
@@ -41,7 +40,7 @@ def first_line(connection, data):
             break
         data += piece
     connection.settimeout(None)
-    if b"\n" not in data[:MOST_FIRST]:
+    if b"\n" not in data[:most]:
         return None, data
     line, _, rest = data.partition(b"\n")
     return line.decode("latin-1"), rest
@@ -153,10 +152,10 @@ class Server:
     def stop(self):
         self.is_stopped = True
 
-    def greet(self, connection):
-        """Serves a connection as its first bytes say."""
+    def greet(self, connection, held=b""):
+        """Serves a connection as its first bytes say. Those in `held` have been read already."""
         try:
-            first = first_bytes(connection)
+            first = first_bytes(connection, held)
             if not first.startswith(BEGINNINGS):
                 self.serve_session(connection, first)
                 return

@@ -27,6 +27,11 @@ class Seat:
             self.pongs += pongs
             self.bell.notify_all()
 
+    def put_first(self, text):
+        """Adds a line before what waits."""
+        with self.bell:
+            self.waiting.insert(0, text)
+
     def is_owed_too_much(self):
         return self.pongs >= MOST_PONGS
 
@@ -194,10 +199,13 @@ class Session:
         return word != "bye"
 
     def join(self):
-        self.seat = self.star.join()
+        self.seat = self.takes_seat()
         self.seat.link = self
         self.writer = threading.Thread(target=self.write, daemon=True)
         self.writer.start()
+
+    def takes_seat(self):
+        return self.star.join()
 
     def write(self):
         """Writes what waits for the site, until the session is over."""

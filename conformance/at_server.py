@@ -21,8 +21,10 @@ class Lasting:
 class Site:
     """A site of a transcript: its link, and whether the lines of the board are still coming. In protocol 4 it is a carrier of a link: the link, and the last `got` that came where another line was due."""
 
+    kind = Link
+
     def __init__(self, address, windows, is_narrow=False):
-        self.link, self.is_in_board, self.is_in_window = Link.to(address, is_narrow), False, False
+        self.link, self.is_in_board, self.is_in_window = self.kind.to(address, is_narrow), False, False
         self.windows = [f"window {it}" for it in windows]
         self.lasting, self.got, self.is_first = None, None, False
 
@@ -67,6 +69,8 @@ class Site:
 class Sites:
     """The sites of a transcript, and the number that the server gave to each, by its number in the transcript. The end of the `with` ends all links."""
 
+    kind = Site
+
     def __init__(self, address, limit, windows, before):
         self.address, self.limit, self.windows = address, limit, windows
         self.sites, self.numbers = {}, {0: (0, before)}
@@ -87,7 +91,7 @@ class Sites:
 
     def site(self, who, is_narrow=False):
         if who not in self.sites:
-            self.sites[who] = Site(self.address, self.windows, is_narrow)
+            self.sites[who] = self.kind(self.address, self.windows, is_narrow)
         return self.sites[who]
 
     def link(self, who):
@@ -128,9 +132,13 @@ class Sites:
             self.numbers[int(line.split()[1])] = (int(given[1]), 0)
         return f"welcome {given[1] if given else 'SITE'} {self.limit}"
 
+    def greets(self, who, *lines):
+        """Sends the first line of a site, and lines after it."""
+        self.link(who).send_lines(*lines)
+
     def joins(self, who):
         """Greets, and returns the lines of the board in the transcript's windows."""
-        self.sends(who, "hello 3")
+        self.greets(who, "hello 3")
         self.is_told(who, f"welcome {len(self.numbers)}")
         lines = []
         while (line := self.site(who).next("'ready'")) != "ready":
@@ -142,7 +150,7 @@ class Sites:
     def gets_a_link(self, who, lines=()):
         """Greets by protocol 4 and sends lines, and reads `link`."""
         site = self.site(who)
-        site.link.send_lines("hello 4", *lines)
+        self.greets(who, "hello 4", *lines)
         told = site.hears("'link'")
         token = notes.token_in(told)
         if not token:

@@ -167,10 +167,12 @@ class Pour:
 class Link:
     """A socket whose other end the kit judges. A narrow one has small buffers, so few bytes fit in before the kit reads them."""
 
+    kind = Lines
+
     def __init__(self, connection):
         self.socket, self.has_ended, self.poured = connection, False, None
         self.socket.setsockopt(socket.IPPROTO_TCP, socket.TCP_NODELAY, 1)
-        self.lines = Lines(connection.makefile("rb"))
+        self.lines = self.kind(connection.makefile("rb"))
 
     @classmethod
     def to(cls, address, is_narrow=False):

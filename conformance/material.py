@@ -27,7 +27,7 @@ CLIENT_RULE = 'docs/PROGRAMS.md, "`jup`"'
 BOARDS_RULE, REFUSALS_RULE = 'docs/WIRE.md, "Layouts"', 'docs/PROTOCOL.md, "What is refused, and what it leaves"'
 BOARD_WORDS = ("window", "text", "list", "toggle", "slider")
 # With these words the rows begin that come before the board of a transcript.
-HEADS = ("limit", "protocol", "long")
+HEADS = ("limit", "protocol", "long", "create")
 # The rules of the table of answers, by the place of a row.
 ANSWER_RULES = {
     "hello": 'docs/WIRE.md, "What a client must do besides": After `hello 4` a client takes any first line except `link` and `error N` as a cut.',
@@ -133,6 +133,8 @@ class Transcript:
         # The limit of its server, whether its client is one of protocol 4, and whether it takes a minute or more.
         self.limit = next((int(it.split()[1]) for it in heads if it.startswith("limit ")), LIMIT)
         self.is_lasting, self.is_long = "protocol 4" in heads, "long" in heads
+        # Who may make boards at its server, if that has many.
+        self.create = next((it.split()[1] for it in heads if it.startswith("create ")), "anyone")
         count = next(at for at, row in enumerate(rows) if row.split()[0] not in BOARD_WORDS)
         self.board, self.rows = Board(rows[:count]), rows[count:]
 

@@ -23,7 +23,7 @@ TEMPLATES_RULE = f"{OPENING}: The server answers `templates` by `create`, a `tem
 
 
 class Shelf:
-    """What the kit knows of a server: its address, its owner's key or nothing, who may make boards, its templates, and how many edits a board takes."""
+    """What the kit knows of a server: its address, its owner's key or nothing, whom it lets make boards, its templates, and how many edits a board takes."""
 
     def __init__(self, address, owner):
         self.address, self.owner = address, owner
@@ -50,13 +50,12 @@ class Shelf:
         link.send_lines(f"open {board.id} {board.own}")
         link.lines.are_next("may own")
         link.send_lines("hello 3")
-        link.lines.next("'run'")
-        found = link.lines.next("'welcome'")
-        welcome = re.fullmatch(r"welcome [1-9]\d* ([1-9]\d*)", found)
+        first = [link.lines.next("'welcome'") for _ in range(2)]
         link.close()
-        if not welcome:
-            raise Differs(f"expected 'welcome SITE LIMIT' after 'run HEX', but got {found!r}")
-        return int(welcome[1])
+        welcomes = [int(it[1]) for it in map(re.compile(r"welcome [1-9]\d* ([1-9]\d*)").fullmatch, first) if it]
+        if not welcomes:
+            raise Differs(f"expected 'run HEX' and 'welcome SITE LIMIT', but got {first}")
+        return welcomes[0]
 
     def plays(self, transcript):
         """Whether a transcript is for such a server."""
@@ -65,7 +64,7 @@ class Shelf:
 
 
 def templates_of(address):
-    """Who may make boards at a server, and the names of its templates."""
+    """Whom a server lets make boards, and the names of its templates."""
     link = Link.to(address)
     link.send_lines("templates")
     first, names = link.lines.next("'create'"), []

@@ -26,6 +26,8 @@ LINES_RULE, SESSIONS_RULE = (f'docs/WIRE.md, "{it}"' for it in ("Lines of a link
 CLIENT_RULE = 'docs/PROGRAMS.md, "`jup`"'
 BOARDS_RULE, REFUSALS_RULE = 'docs/WIRE.md, "Layouts"', 'docs/PROTOCOL.md, "What is refused, and what it leaves"'
 BOARD_WORDS = ("window", "text", "list", "toggle", "slider")
+# The folders of transcripts: those of a server of one board, of a client, and of a server of many boards.
+FOLDERS = ("servers", "clients", "boards")
 # With these words the rows begin that come before the board of a transcript.
 HEADS = ("limit", "protocol", "long", "create")
 # The rules of the table of answers, by the place of a row.
@@ -233,7 +235,7 @@ def answers():
 
 def rules():
     """Every rule that a transcript or a table shows."""
-    shown = {it.rule for folder in ("servers", "clients") for it in transcripts(folder)}
+    shown = {it.rule for folder in FOLDERS for it in transcripts(folder)}
     lines = {it.rule() for reader in READERS for it in lines_for(reader)}
     return shown | lines | set(TRANSFORM_RULES.values()) | set(ANSWER_RULES.values())
 

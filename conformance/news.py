@@ -47,11 +47,12 @@ class NewsLines(Lines):
 
     def hear(self, wanted):
         """Tests that these news come before any other line, unless they have come already. `links` with another count may come before."""
-        word = wanted.split(" ")[0]
-        while self.kept.pop(word, None) != wanted:
-            line = super().next(repr(wanted))
+        word, due = wanted.split(" ")[0], repr(wanted)
+        while (found := self.kept.pop(word, None)) != wanted:
+            due = f"{wanted!r} after {found!r}" if found else due
+            line = super().next(due)
             if not self.is_news(line):
-                raise Differs(f"expected {wanted!r}, but got {line!r}")
+                raise Differs(f"expected {due}, but got {line!r}")
             self.hears(line)
 
 

@@ -10,7 +10,7 @@ import at_boards
 import material
 from links import Differs, Lines, address_bound, free_address
 
-# Who may make boards, and how many edits a board takes, at the servers whose parts the kit has. A command without {create} or {limit} starts only the first.
+# Whom they let make boards, and how many edits a board takes, at the servers whose parts the kit has. A command without {create} or {limit} starts only the first.
 KINDS = ("anyone", "owner", "nobody"), (material.LIMIT, material.FULL_LIMIT)
 
 
@@ -21,9 +21,9 @@ def boards(server, owner):
         return
     for create, limit in itertools.product(*KINDS):
         if is_started(server, create, limit):
-            key = owner or secrets.token_hex(16)
+            key = owner or secrets.token_hex(16) * ("{owner}" in server)
             with started(server, {"{create}": create, "{limit}": str(limit), "{owner}": key}) as address:
-                yield from at_boards.parts(address, key if "{owner}" in server else "")
+                yield from at_boards.parts(address, key)
 
 
 def is_started(server, create, limit):

@@ -20,6 +20,7 @@ class Silent(Exception):
 class Opening:
     """Serves a connection of a server of many boards."""
 
+    visitor = Visitor
     # In how many seconds a first line is whole, the first line after the answer, each later one, and an import.
     first, answered, later, importing = 10, 10, 60, 60
     open_form, make_form = f"open ({ID}) ({KEY})", f"make ({ID}) ({KEY}) ({NAME}|-)"
@@ -99,7 +100,7 @@ class Opening:
 
     def attends(self, board, right, key):
         """Answers an open or a make by its right, and serves the board."""
-        visitor = Visitor(self.connection)
+        visitor = self.visitor(self.connection)
         board.visitors.come(visitor)
         try:
             visitor.say(f"may {right}")

@@ -108,12 +108,12 @@ def char_of(value):
 
 
 def quoted(text):
-    def spelled(char):
-        if char in '"\\':
-            return "\\" + char
-        return char if " " <= char <= "~" else f"\\u{{{ord(char):x}}}"
+    return '"' + re.sub(r"[^ !#-\[\]-~]", escaped, text) + '"'
 
-    return '"' + "".join(map(spelled, text)) + '"'
+
+def escaped(found):
+    char = found[0]
+    return f"\\{char}" if char in '"\\' else f"\\u{{{ord(char):x}}}"
 
 
 class Commands:

@@ -91,7 +91,7 @@ class Kept:
 
 
 class Shelf:
-    """All boards of a server. `create` says who may make boards, and `owner` is the key of the server's owner."""
+    """All boards of a server. `create` says whom it lets make boards, and `owner` is the key of the server's owner."""
 
     star, session, link, kept, opening = Star, OpenSession, OpenLink, Kept, Opening
 

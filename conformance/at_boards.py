@@ -28,11 +28,11 @@ class Shelf:
     def __init__(self, address, owner):
         self.address, self.owner = address, owner
         self.create, self.templates = templates_of(address)
-        self.limit = self.limit_of_a_board() if self.makes_boards() else 0
-
-    def makes_boards(self):
-        """Whether the kit can make boards here."""
-        return self.create == "anyone" or self.create == "owner" and bool(self.owner)
+        if self.create == "owner" and not owner:
+            raise Differs("only the owner makes boards there: give --owner KEY")
+        self.limit = None if self.create == "nobody" else self.limit_of_a_board()
+        if self.limit and not self.has_parts():
+            raise Differs(f"a board takes {self.limit} edits there: the kit has parts for {material.FULL_LIMIT}, and for {material.LIMIT} and more")
 
     def make(self, board, printed):
         """Makes a board of the lines of a printed one."""
@@ -57,10 +57,16 @@ class Shelf:
             raise Differs(f"expected 'run HEX' and 'welcome SITE LIMIT', but got {first}")
         return welcomes[0]
 
+    def has_parts(self):
+        return self.is_full_soon() or self.limit >= material.LIMIT
+
+    def is_full_soon(self):
+        """Whether a board takes so few edits that its order gets full."""
+        return self.limit == material.FULL_LIMIT
+
     def plays(self, transcript):
         """Whether a transcript is for such a server."""
-        is_for_limit = self.limit == transcript.limit or transcript.limit == material.LIMIT <= self.limit
-        return transcript.create == self.create and (is_for_limit or not self.makes_boards())
+        return transcript.create == self.create and (transcript.limit == material.FULL_LIMIT) == self.is_full_soon()
 
 
 def templates_of(address):
@@ -236,5 +242,5 @@ def parts(address, owner):
     for it in material.played("boards"):
         if shelf.plays(it):
             yield it.name, it.rule, lambda it=it: play(shelf, it)
-    if shelf.create == "anyone" and shelf.limit >= material.LIMIT:
+    if shelf.create == "anyone" and not shelf.is_full_soon():
         yield from table_parts(shelf)

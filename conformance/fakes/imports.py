@@ -15,7 +15,7 @@ class BrokenOff(Exception):
 
 def read_import(connection, held, most, seconds):
     """The lines up to `end`, and what was read after it. `held` is what was read before. An import that is too long or too slow is refused by 48."""
-    data, at, until = b"\n" + held, 0, time.monotonic() + seconds
+    data, at, until = bytearray(b"\n" + held), 0, time.monotonic() + seconds
     while (end := data.find(LAST, at)) < 0 and len(data) <= most:
         at, left = max(0, len(data) - len(LAST)), until - time.monotonic()
         connection.settimeout(max(0.001, left))
@@ -29,7 +29,7 @@ def read_import(connection, held, most, seconds):
     connection.settimeout(None)
     if end < 0 or end + len(LAST) - 1 > most:
         raise Fault(48)
-    return data[1:end].decode("latin-1").split("\n") if end else [], data[end + len(LAST) :]
+    return data[1:end].decode("latin-1").split("\n") if end else [], bytes(data[end + len(LAST) :])
 
 
 class Printed:

@@ -2,7 +2,7 @@
 from boards import Fault
 from imports import BrokenOff, Printed
 from keys import ID
-from opening import Opening, Silent
+from opening import MOST_IMPORT, Opening, Silent
 from shelves import TEMPLATES, Shelf
 
 ANY_KEY = "[0-9a-f]{0,32}"
@@ -133,6 +133,13 @@ class SmallImports(Opening):
         return super().imports(most - 1)
 
 
+class OwnerImportsLikeOthers(Opening):
+    """It takes no more bytes of its owner than of others."""
+
+    def imports(self, most):
+        return super().imports(MOST_IMPORT)
+
+
 class PatientAtFirst(Opening):
     """It waits for a first line for as long as that takes."""
 
@@ -237,6 +244,7 @@ WAYS = {
     "answers-early": with_opening(AnswersEarly),
     "imports-without-bound": with_opening(ImportsWithoutBound),
     "small-imports": with_opening(SmallImports),
+    "owner-imports-like-others": with_opening(OwnerImportsLikeOthers),
     "patient-at-first": with_opening(PatientAtFirst),
     "patient-after-the-answer": with_opening(PatientAfterTheAnswer),
     "patient-later": with_opening(PatientLater),

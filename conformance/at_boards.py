@@ -123,6 +123,12 @@ class BoardSites(Sites):
         self.sends(who, f"open {name}.id {name}.edit")
         self.is_told(who, "may edit")
 
+    def begins(self, who, name, joins):
+        """Joins the board that the site has asked for, or asks for a board first."""
+        if name:
+            self.asks_for(who, name)
+        joins(who)
+
     def greets(self, who, *lines):
         super().greets(who, *lines)
         self.is_told(who, f"run {self.asked[who]}.run")
@@ -160,6 +166,8 @@ class BoardSites(Sites):
             "is made": lambda name, _: self.is_made(name, None),
             "is made by": self.is_made,
             "asks for": self.asks_for,
+            "joins": lambda who, name: self.begins(who, name, self.joins),
+            "opens": lambda who, name: self.begins(who, name, self.opens),
             "connects": lambda who, _: self.site(who),
             "is quiet": lambda who, _: self.is_quiet(who),
         }

@@ -1,4 +1,5 @@
 """The connections of one board of a server of many: who is there, and the news that a client has asked for (docs/WIRE.md, "Between the answer and the link")."""
+import contextlib
 import threading
 import time
 
@@ -76,4 +77,5 @@ class Visitors:
         with self.lock:
             there = list(self.all)
         for it in there:
-            it.hears(links, is_full)
+            with contextlib.suppress(OSError):  # the client has gone, which the thread that reads finds out too
+                it.hears(links, is_full)

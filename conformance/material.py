@@ -135,7 +135,7 @@ class Transcript:
         # The limit of its server, whether its client is one of protocol 4, and whether it takes a minute or more.
         self.limit = next((int(it.split()[1]) for it in heads if it.startswith("limit ")), LIMIT)
         self.is_lasting, self.is_long = "protocol 4" in heads, "long" in heads
-        # Who may make boards at its server, if that has many.
+        # Whom its server lets make boards, if it has many.
         self.create = next((it.split()[1] for it in heads if it.startswith("create ")), "anyone")
         count = next(at for at, row in enumerate(rows) if row.split()[0] not in BOARD_WORDS)
         self.board, self.rows = Board(rows[:count]), rows[count:]

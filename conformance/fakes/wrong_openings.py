@@ -168,7 +168,7 @@ class HastyLater(Opening):
     """It gives a later line no more time than the first one after the answer."""
 
     def notes(self, *given):
-        self.later = self.answered
+        self.later /= 6
         super().notes(*given)
 
 

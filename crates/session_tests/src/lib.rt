@@ -22,6 +22,8 @@ mod fakes;
 #[cfg(test)]
 mod flushes;
 #[cfg(test)]
+mod gates;
+#[cfg(test)]
 mod growths;
 #[cfg(test)]
 mod overtaking;

@@ -11,6 +11,7 @@
 // connections (protocol 4). The program says by jup_cut that a connection broke, and by jup_resume that it has another one. Meanwhile its user edits on.
 // Memory: malloc, realloc and free of the program. A call for which they have no memory answers JUP_NO_MEMORY.
 // Answers: JUP_OK, the number of a fault as docs/WIRE.md lists them, or one of the numbers from 90 on, which are below.
+// Outputs: if a call is refused, its told, copied or len is 0, and its other outputs are as they were. So is the output of jup_next_change if that answers 0.
 //
 // What the caller owes, since no call can test it. Each pointer is valid for the length that is given, and none is null, also if the length is 0. What a call
 // writes overlaps nothing else that it is given. A jup_client is all zero, or as these functions left it.

@@ -320,6 +320,48 @@ static void test_pings(void) {
     jup_close(&client);
 }
 
+// What each client refuses leaves counts of 0 in the outputs, and the rest of them as it was.
+static void expect_left(jup_client *client, const char *when) {
+    uint32_t chars[2] = { 9, 8 };
+    uint16_t win = 7;
+    size_t widgets = 6, copied = 5, len = 4;
+    uint8_t label[4] = "...";
+    jup_widget widget, widget_before;
+    jup_change change, change_before;
+    memset(&widget, 0xAA, sizeof widget);
+    memset(&change, 0xAA, sizeof change);
+    widget_before = widget;
+    change_before = change;
+    expect(jup_window(client, 9, &win, &widgets) != JUP_OK && win == 7 && widgets == 6, when);
+    expect(jup_widget_at(client, 9, 0, &widget) != JUP_OK && memcmp(&widget, &widget_before, sizeof widget) == 0, when);
+    expect(jup_text(client, 9, 3, 0, chars, 2, &copied) != JUP_OK && copied == 0 && chars[0] == 9 && chars[1] == 8, when);
+    expect(jup_label(client, 9, 4, 0, label, 3, &len) != JUP_OK && len == 0 && memcmp(label, "...", 4) == 0, when);
+    expect(jup_next_change(client, &change) == 0 && memcmp(&change, &change_before, sizeof change) == 0, when);
+}
+
+// So does what a client refuses if its session is not open.
+static void expect_left_unopened(jup_client *client, const char *when) {
+    uint32_t number = 9, backlog = 8;
+    size_t told = 7;
+    uint8_t text[4] = "...";
+    expect_left(client, when);
+    expect(jup_site(client, &number, &backlog) != JUP_OK && number == 9 && backlog == 8, when);
+    expect(jup_ask(client, (const uint8_t *)"show", 4, text, 3, &told) != JUP_OK && told == 0 && memcmp(text, "...", 4) == 0, when);
+}
+
+static void test_outputs(void) {
+    jup_client client = JUP_CLIENT_NONE;
+    expect_left_unopened(&client, "outputs of a client that was never opened");
+    jup_open(&client, 1);
+    expect_left_unopened(&client, "outputs before the greeting");
+    expect(feed(&client, greeted) == JUP_OK, "the session opens");
+    expect_left(&client, "outputs of an open session");
+    expect(feed(&client, "error 32\n") == 32, "the session ends");
+    expect_left_unopened(&client, "outputs after the end");
+    jup_close(&client);
+    expect_left_unopened(&client, "outputs of a client that was closed");
+}
+
 // All calls on a client that is not there, after `when`.
 static void expect_closed(jup_client *client, const char *when) {
     uint32_t number = 9, backlog = 9, chars[1];
@@ -376,6 +418,7 @@ int main(void) {
     test_labels();
     test_lines();
     test_pings();
+    test_outputs();
     test_misuse();
     return report();
 }

@@ -63,7 +63,7 @@ static void test_token(void) {
     uint32_t seconds = 9, kept = 9;
     jup_open_lasting(&client, 0);
     memset(token, '.', sizeof token);
-    expect(jup_token(&client, token, 32, &seconds, &kept) == JUP_NOT_OPEN && seconds == 9, "there is no link yet");
+    expect(jup_token(&client, token, 32, &seconds, &kept) == JUP_NOT_OPEN && token[0] == '.' && seconds == 9 && kept == 9, "there is no link yet");
     expect(feed(&client, "link " TOKEN " 300\n") == JUP_OK, "there is one");
     expect(jup_token(&client, token, 33, &seconds, &kept) == JUP_OK && memcmp(token, TOKEN ".", 33) == 0 && seconds == 300 && kept == 0, "the server's terms");
     jup_open_lasting(&client, 0);

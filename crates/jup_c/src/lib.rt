@@ -213,6 +213,7 @@ pub extern "C" fn jup_ask(
 ) -> u32
     ensures rest { Inside (λ c d. d ≡ with_session (session_of d) c) (result ≡ closed) client.old.inside client.new.inside }
     ensures long { length to.new ≡ length to.old }
+    ensures refused { result ≢ 0 → (told.new ≡ 0) × (to.new ≡ to.old) }
 {
     *told = 0;
     let Some(mut held) = client.take(alloc) else {
@@ -241,6 +242,7 @@ pub extern "C" fn jup_next_change(
     ensures told { result ≡ 1 → Inside (Tells out.new) ⊥ client.old.inside client.new.inside }
     ensures none { result ≢ 1 → changes_inside client.old.inside ≡ [] }
     ensures same { result ≢ 1 → client.new.inside ≡ client.old.inside }
+    ensures left { result ≢ 1 → out.new ≡ out.old }
 {
     let Some(mut held) = client.take(alloc) else {
         return 0;
@@ -267,6 +269,7 @@ pub extern "C" fn jup_site(
 ) -> u32
     ensures known { IfSome (site_inside client.old.inside) (λ site. (result ≡ 0) × (number.new ≡ site.0) × (backlog.new ≡ site.1)) }
     ensures none { site_inside client.old.inside ≡ None → result ≢ 0 }
+    ensures refused { result ≢ 0 → (number.new ≡ number.old) × (backlog.new ≡ backlog.old) }
     ensures same { client.new.inside ≡ client.old.inside }
 {
     let Some(held) = client.take(alloc) else {
@@ -293,7 +296,8 @@ pub extern "C" fn jup_window(
     win: &mut u16,
     widgets: &mut usize,
 ) -> u32
-    ensures { client.new.inside ≡ client.old.inside }
+    ensures refused { result ≢ 0 → (win.new ≡ win.old) × (widgets.new ≡ widgets.old) }
+    ensures same { client.new.inside ≡ client.old.inside }
 {
     let Some(held) = client.take(alloc) else {
         return CLOSED;
@@ -322,7 +326,8 @@ pub extern "C" fn jup_widget_at(
     index: usize,
     out: &mut PlainWidget,
 ) -> u32
-    ensures { client.new.inside ≡ client.old.inside }
+    ensures refused { result ≢ 0 → out.new ≡ out.old }
+    ensures same { client.new.inside ≡ client.old.inside }
 {
     let Some(held) = client.take(alloc) else {
         return CLOSED;
@@ -353,6 +358,7 @@ pub extern "C" fn jup_text(
     copied: &mut usize,
 ) -> u32
     ensures long { length to.new ≡ length to.old }
+    ensures refused { result ≢ 0 → (copied.new ≡ 0) × (to.new ≡ to.old) }
     ensures same { client.new.inside ≡ client.old.inside }
 {
     *copied = 0;
@@ -385,6 +391,7 @@ pub extern "C" fn jup_label(
     len: &mut usize,
 ) -> u32
     ensures long { length to.new ≡ length to.old }
+    ensures refused { result ≢ 0 → (len.new ≡ 0) × (to.new ≡ to.old) }
     ensures same { client.new.inside ≡ client.old.inside }
 {
     *len = 0;
@@ -463,6 +470,7 @@ pub extern "C" fn jup_token(
 ) -> u32
     ensures answer { result ≡ known_answer (terms_inside client.old.inside) }
     ensures known { (terms : Terms) → terms_inside client.old.inside ≡ Ok (Some terms) → (seconds.new ≡ terms.seconds) × (IsTrue terms.kept ↔ (kept.new ≡ 1)) }
+    ensures refused { result ≢ 0 → (to.new ≡ to.old) × (seconds.new ≡ seconds.old) × (kept.new ≡ kept.old) }
     ensures long { length to.new ≡ length to.old }
     ensures same { client.new.inside ≡ client.old.inside }
 {
@@ -489,6 +497,7 @@ pub extern "C" fn jup_token(
 pub extern "C" fn jup_arrived(alloc: Global, client: &mut JupClient, edits: &mut u32) -> u32
     ensures answer { result ≡ known_answer (arrived_inside client.old.inside) }
     ensures known { (count : ℕ) → arrived_inside client.old.inside ≡ Ok (Some count) → edits.new ≡ count }
+    ensures refused { result ≢ 0 → edits.new ≡ edits.old }
     ensures same { client.new.inside ≡ client.old.inside }
 {
     let Some(held) = client.take(alloc) else {

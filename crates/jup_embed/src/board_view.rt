@@ -61,6 +61,7 @@ fn kind_of(widget: &Widget) -> WidgetKind
 /// Copies characters of a text from a place on, as far as there is room, and returns how many. None if there is no such text.
 pub fn copy_text(board: &Board, win: u16, wid: u16, place: u32, to: &mut [u32]) -> Option<usize>
     ensures none { IsNone result → characters_at (win, wid) board.now ≡ None }
+    ensures same { IsNone result → to.new ≡ to.old }
     ensures count { IfSome result (λ count. IsSomeAnd (characters_at (win, wid) board.now) (λ text. count ≡ min (length to.old) (length text - place))) }
     ensures copied { IfSome result (λ count. IfSome (characters_at (win, wid) board.now) (λ text. take count to.new ≡ take count (drop place text))) }
     ensures long { length to.new ≡ length to.old }

@@ -2,6 +2,7 @@
 use crate::caller::{Caller, Ends};
 use crate::stop::Stop;
 use crate::turn::{BROWSER_PATIENCE, InTurn};
+use crate::until_stop::UntilStop;
 use jup_carrier::{CarrierEnd, Connection, Timed};
 use jup_http::{MessageReader, MessageWriter, put_close, put_ping};
 use jup_io::write_whole;
@@ -52,11 +53,11 @@ impl<'a, R: Wait> BrowserSocket<'a, R> {
     /// What reads the payloads of the browser's messages.
     pub(crate) fn reader<'b>(&'b self, stop: &'b Stop) -> Result<BrowserReader<'b, R>, AllocError> {
         let bytes = BrowserBytes::new(self.alloc, self.stream, self.way())?;
+        let messages = MessageReader::new(self.alloc, bytes, self.way())?;
         Ok(BrowserReader {
-            messages: MessageReader::new(self.alloc, bytes, self.way())?,
+            messages: UntilStop::new(messages),
             socket: self,
             stop,
-            heeds_stop: true,
         })
     }
 
@@ -137,21 +138,18 @@ impl<'a, R: Wait> Read for BrowserBytes<'a, R> {
     }
 }
 
-/// Reads the payloads of a browser's messages until the server has to stop: then its bytes have ended, even if more come. A carrier of a link is read on.
+/// Reads the payloads of a browser's messages until the server has to stop.
 #[derive(Drop)]
 pub(crate) struct BrowserReader<'a, R: Wait> {
-    messages: MessageReader<BrowserBytes<'a, R>, InTurn<'a, R, Outgoing<'a>>>,
+    messages: UntilStop<MessageReader<BrowserBytes<'a, R>, InTurn<'a, R, Outgoing<'a>>>>,
     socket: &'a BrowserSocket<'a, R>,
     stop: &'a Stop,
-    heeds_stop: bool,
 }
 
 impl<'a, R: Wait> Read for BrowserReader<'a, R> {
     fn read(&mut self, buf: &mut [u8]) -> io::Result<usize> {
-        if self.heeds_stop && self.stop.is_told(self.socket.rt) {
-            return Ok(0);
-        }
-        let read = self.messages.read(buf);
+        let look = self.stop.look(self.socket.rt);
+        let read = self.messages.read(look, buf);
         if let Some(ending) = self.messages.ending() {
             self.socket.closing.lock(self.socket.rt).note(ending);
         }
@@ -170,6 +168,6 @@ impl<'a, R: Wait> Timed for BrowserReader<'a, R> {
 
 impl<'a, R: Wait> Caller for BrowserReader<'a, R> {
     fn begin_carrying(&mut self) {
-        self.heeds_stop = false;
+        self.messages.begin_carrying();
     }
 }

@@ -2,6 +2,7 @@
 use crate::browser::LOOK;
 use crate::connections::Visit;
 use crate::stop::Stop;
+use crate::until_stop::UntilStop;
 use jup_carrier::{Connection, Timed};
 use std::io;
 use std::io::Read;
@@ -41,8 +42,7 @@ pub(crate) struct LineBytes<'a, R: Wait> {
     rt: &'a R,
     stop: &'a Stop,
     first: &'a [u8],
-    stream: &'a TcpStream,
-    heeds_stop: bool,
+    from: UntilStop<&'a TcpStream>,
 }
 
 impl<'a, R: Wait> LineBytes<'a, R> {
@@ -56,8 +56,7 @@ impl<'a, R: Wait> LineBytes<'a, R> {
             rt,
             stop,
             first,
-            stream,
-            heeds_stop: true,
+            from: UntilStop::new(stream),
         }
     }
 }
@@ -67,23 +66,19 @@ impl<'a, R: Wait> Read for LineBytes<'a, R> {
         if !self.first.is_empty() {
             return self.first.read(buf);
         }
-        if self.heeds_stop && self.stop.is_told(self.rt) {
-            return Ok(0);
-        }
-        let mut from = self.stream;
-        from.read(buf)
+        self.from.read(self.stop.look(self.rt), buf)
     }
 }
 
 impl<'a, R: Wait> Timed for LineBytes<'a, R> {
     fn wait_at_most(&mut self, wait: Option<Duration>) -> io::Result<()> {
-        self.stream.set_read_timeout(wait)
+        self.from.wait_at_most(wait)
     }
 }
 
 impl<'a, R: Wait> Caller for LineBytes<'a, R> {
     fn begin_carrying(&mut self) {
-        self.heeds_stop = false;
+        self.from.begin_carrying();
         let _ = self.wait_at_most(Some(Duration::from_secs(LOOK)));
     }
 }

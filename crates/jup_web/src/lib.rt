@@ -18,6 +18,7 @@ mod stop;
 mod stopping;
 mod telling;
 mod turn;
+mod until_stop;
 
 pub use keeping::{board_text, take_news};
 pub use serving::web_main;

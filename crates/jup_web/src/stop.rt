@@ -1,6 +1,7 @@
 //! How a thread stops the server, and how the other threads learn of it.
 
 use crate::stopping::StopMark;
+use crate::until_stop::Look;
 use std::io;
 use std::net::{TcpListener, TcpStream};
 use std::os::fd::OwnedFd;
@@ -34,6 +35,11 @@ impl Stop {
 
     pub(crate) fn is_told<R: Wait>(&self, rt: &R) -> bool {
         self.mark.lock(rt).is_told()
+    }
+
+    /// Looks at the stop before a read.
+    pub(crate) fn look<R: Wait>(&self, rt: &R) -> Look {
+        Look::at(&self.mark.lock(rt))
     }
 
     /// Waits for this time, or until the server has to stop. True if it has to.

@@ -1,5 +1,5 @@
 -- The keys that a key gives, and what is kept of a key.
-use Rattle.std.specs.Prelude.{◌≡◌, ℕ, List, ◌∷◌, ◌++◌, All, length, take, codes, decimal}
+use Rattle.std.specs.Prelude.{◌≡◌, ℕ, List, ◌∷◌, ◌++◌, All, length, take, codes, decimal, replicate}
 use Rattle.hex.specs.Hex.{encode_lower}
 use Rattle.sha2.specs.Sha256.{sha256}
 use Rattle.jup_resume.specs.Tokens.{IsTokenDigit}
@@ -23,6 +23,14 @@ read_key number edit = derived_key (codes "read") number edit
 -- the digest of a board's ID and a key, with a space between them
 abbrev pub hash_of : List ℕ → List ℕ → List ℕ
 hash_of id key = encode_lower (sha256 (id ++ 32 ∷ key))
+
+-- the digest of a key alone, by which a server knows its owner
+abbrev pub owner_hash : List ℕ → List ℕ
+owner_hash key = encode_lower (sha256 key)
+
+-- the digest of 32 zeros, of which nobody knows what it is the digest of
+abbrev pub zero_hash : List ℕ
+zero_hash = encode_lower (replicate 32 0)
 
 -- the spelling of a hash: 64 digits, as those of a token
 pub record IsHashText (text : List ℕ) : Type 0 where

@@ -2,7 +2,7 @@
 use Rattle.std.specs.Prelude.{◌≡◌, ◌≢◌, ℕ, ◌+◌, ◌≤◌, List, ◌∷◌, ◌++◌, codes, decimal, Option, Some, None}
 use Rattle.jup_number.specs.Numbers.{IsU32}
 use Rattle.jup_resume.specs.Texts.{spelled}
-use Rattle.jup_keys.specs.Digests.{edit_key, read_key, hash_of, IsHashText}
+use Rattle.jup_keys.specs.Digests.{edit_key, read_key, hash_of, zero_hash, IsHashText}
 use Rattle.jup_keys.specs.declared.right.Right.{Right}
 use Rattle.jup_keys.specs.declared.right.Right.TheVariants.{Own, Edit, Read}
 
@@ -23,6 +23,10 @@ keyring_of id own edits reads = record {
   reads = reads;
   read = hash_of id (read_key reads (edit_key edits own));
 }
+
+-- that of nobody
+abbrev pub nobodys_keys : Keyring
+nobodys_keys = record { own = zero_hash; edits = 1; edit = zero_hash; reads = 1; read = zero_hash }
 
 -- a number of keys: from 1 on
 abbrev pub IsKeyNumber : ℕ → Type 0

@@ -2,7 +2,7 @@
 ghost use Rattle.std.specs.Prelude.{◌≡◌, ◌↔◌, IsTrue, MatchOption};
 ghost use Rattle.hex.specs.Hex.{encode_lower};
 ghost use Rattle.jup_resume.specs.Tokens.{IsTokenDigit};
-ghost use Rattle.jup_keys.specs.Digests.{hash_of, IsHashText};
+ghost use Rattle.jup_keys.specs.Digests.{hash_of, owner_hash, zero_hash, IsHashText};
 
 use crate::id::BoardId;
 use crate::key::Key;
@@ -13,7 +13,7 @@ use std::marker::Model;
 /// How many digits a hash is spelled with.
 const DIGITS: usize = 64;
 
-/// The digest of a key and its board's ID, by which a server knows the key and nobody finds it.
+/// The digest of a key, by which a server knows the key and nobody finds it. That of a board's key is taken with the board's ID.
 ///
 /// A key is random and no password, so the hash needs no salt. Contracts see it as its spelling, 64 digits from `0` to `9` and
 /// `a` to `f`.
@@ -45,6 +45,22 @@ impl KeyHash {
         hasher.update(b" ".as_slice());
         hasher.update(key.digits());
         KeyHash::new(&hasher.finalize())
+    }
+
+    /// The hash of the key by which a server knows its owner. No board has it.
+    pub fn of_owner(key: &Key) -> KeyHash
+        ensures { result ≡ owner_hash key.now }
+    {
+        let mut digest = Sha256::new();
+        digest.update(key.digits());
+        KeyHash::new(&digest.finalize())
+    }
+
+    /// 64 zeros. Nobody knows a key with this hash.
+    pub(crate) fn zero() -> KeyHash
+        ensures { result ≡ zero_hash }
+    {
+        KeyHash::new(&[0; 32])
     }
 
     /// The hash of which this is the spelling.

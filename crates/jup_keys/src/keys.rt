@@ -6,6 +6,7 @@ ghost use Rattle.jup_keys.specs.Digests.{hash_of};
 ghost use Rattle.jup_keys.specs.Rights.{given_keys};
 ghost use Rattle.jup_keys.specs.Keyrings.{
   keyring_of,
+  nobodys_keys,
   keyring_lines,
   keyring_text,
   IsKeyring,
@@ -57,6 +58,19 @@ impl Keys {
         ensures { result ≡ keyring_of id.now own.now 1 1 }
     {
         Keys::numbered(id, own, 1, 1)
+    }
+
+    /// Keys that nobody has. A key that is shown for a board that is not there is compared with these, which takes as long.
+    pub fn of_nobody() -> Keys
+        ensures { result ≡ nobodys_keys }
+    {
+        Keys {
+            own: KeyHash::zero(),
+            edits: 1,
+            edit: KeyHash::zero(),
+            reads: 1,
+            read: KeyHash::zero(),
+        }
     }
 
     /// The keys that a file of a board says.

@@ -58,7 +58,7 @@ export class Row {
     Object.assign(this, { name, label: value });
     this.field = make("input", {
       type: "text", value, autocomplete: "off", dir: "auto", ariaLabel: `Item of ${list.name.textContent}`,
-      focus: () => (this.#base ??= this.label),
+      focus: () => (this.#renew(), (this.#base ??= this.label)),
       input: (event) => event.isComposing || this.#typed(),
       compositionend: () => this.#typed(),
       paste: (event) => list.pasted(event, this.field, this),
@@ -120,6 +120,12 @@ export class Row {
     this.tell();
   }
 
+  // The list can have a newer label than was drawn.
+  #renew() {
+    const label = this.#list.labelOf(this);
+    if (label !== undefined) this.show(label);
+  }
+
   // An undo or a redo gave the item this label. A cursor alone does not keep the field from showing it.
   putBack(label) {
     const hasCursor = this.#base !== null && !this.isDraft;
@@ -166,6 +172,7 @@ export class Row {
   // Sends a draft that can be a label. If others have changed the same place, the user is asked.
   send() {
     if (!this.isDraft || this.isGhost || !this.isGood) return;
+    this.#renew();
     const label = merged(this.#base, this.#mine, this.label);
     this.#isAsked = label === null || faultOf(label) !== "";
     if (!this.#isAsked) this.#put(label);

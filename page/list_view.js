@@ -190,6 +190,12 @@ export class ListView extends View {
 
   // ---- What the user does ----
 
+  // The label of a row's item, if that is there.
+  labelOf({ name }) {
+    const { items } = this.widget;
+    return items[placeOf(items, name, 0)]?.value;
+  }
+
   // A label that a race made of the user's belongs to the same `step`.
   relabel(row, label, step = {}) {
     const place = placeOf(this.widget.items, row.name, 0);

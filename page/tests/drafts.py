@@ -13,6 +13,8 @@ AT_ONCE = 0.45
 # After this time it is taken again.
 LATER = 0.8
 GAPS = (0, 0.02, 0.15, 0.3)
+# The page takes what comes, and shows it a minute later, as if it had much to draw.
+DRAWS_LATE = "performance.now = () => -60000, null"
 FOCUS = "document.activeElement"
 HAS_FIELD_OR_BUTTON = f"['INPUT', 'TEXTAREA', 'BUTTON'].includes({FOCUS}.tagName)"
 
@@ -106,6 +108,30 @@ def overlapping_at_once(stage):
     expect(asked.count(True), 1, "how many are asked")
     stage.tabs[asked.index(True)].click(button("Take theirs"))
     list_is(stage, [["rye bread", "oat bread"][asked.index(True)], *ITEMS[1:]])
+
+
+def not_drawn_yet(stage):
+    """The page has a label of others that it does not show yet. What one has typed goes together with it, and so does what one types then."""
+    label = "milk"
+    stage.a.run(DRAWS_LATE)
+    for begins_late in (False, True):
+        if not begins_late:
+            types_in_front(stage.a, label)
+        retype(stage.b, field(label), f"{label} more")
+        stage.b.press("Enter")
+        stage.b.until(f"{STATE} === 'open'")
+        expect_that(f"{label} more" not in stage.a.run(LABELS), "the page does not show the label yet")
+        if begins_late:
+            types_in_front(stage.a, label)
+        leave(stage.a)
+        label = f"one {label} more"
+        list_is(stage, changed("milk", label))
+
+
+def types_in_front(tab, label):
+    tab.run(f"{field(label)}.focus()")
+    tab.press("Home")
+    tab.type("one ")
 
 
 def drafts_of_apart_items(stage):
@@ -435,6 +461,7 @@ PARTS = {
     "two at one item": two_at_one_item,
     "two at one item, whose drafts overlap": overlapping,
     "two at one item, whose drafts overlap and are sent at once": overlapping_at_once,
+    "a label that is not drawn yet": not_drawn_yet,
     "drafts of two items": drafts_of_apart_items,
     "deleted under the cursor": deleted_under_the_cursor,
     "deleted under the cursor without a draft": deleted_with_a_cursor_alone,

@@ -120,10 +120,10 @@ export class Row {
     this.tell();
   }
 
-  // The list can have a newer label than was drawn.
+  // The list can have a newer label than was drawn. While the page brings in what it did, it has an older one.
   #renew() {
     const label = this.#list.labelOf(this);
-    if (label !== undefined) this.show(label);
+    if (label !== undefined && !this.#list.page.isJoining) this.show(label);
   }
 
   // An undo or a redo gave the item this label. A cursor alone does not keep the field from showing it.
@@ -171,7 +171,7 @@ export class Row {
 
   // Sends a draft that can be a label. If others have changed the same place, the user is asked.
   send() {
-    if (!this.isDraft || this.isGhost || !this.isGood) return;
+    if (!this.isDraft || this.isGhost || !this.isGood || this.#list.page.isJoining) return;
     this.#renew();
     const label = merged(this.#base, this.#mine, this.label);
     this.#isAsked = label === null || faultOf(label) !== "";

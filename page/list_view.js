@@ -310,6 +310,11 @@ export class ListView extends View {
     return isMade;
   }
 
+  // What was left while the page brought in what it did.
+  goOn() {
+    this.sendDrafts();
+  }
+
   hide() {
     for (const row of [...this.#shown]) row.send();
   }

@@ -6,7 +6,7 @@ pub const PAGE: &[u8] = br#"<!doctype html>
 <html lang="en">
 <head>
 <meta charset="utf-8">
-<meta http-equiv="Content-Security-Policy" content="default-src 'none'; script-src 'sha256-A0apzgOe8ABTbBh/6ZC4EhgxsNmHS02SpWfDl+PvpUg='; style-src 'sha256-DuI8mRnbR21lAdXj+Uc+Lhi0Y1t1pOgoTLloce9TMNs='; img-src data:; connect-src 'self'; base-uri 'none'; form-action 'none'">
+<meta http-equiv="Content-Security-Policy" content="default-src 'none'; script-src 'sha256-S2ENgouPQCKamgG4nF3Xoo9OG9ocyVdzSTV50HmgowM='; style-src 'sha256-DuI8mRnbR21lAdXj+Uc+Lhi0Y1t1pOgoTLloce9TMNs='; img-src data:; connect-src 'self'; base-uri 'none'; form-action 'none'">
 <meta name="viewport" content="width=device-width, initial-scale=1">
 <meta name="color-scheme" content="light dark">
 <title>Gidzvruka</title>
@@ -227,15 +227,15 @@ tend(){if(this.#t===null)return;let{unsent}=this.#t;if(unsent<this.#bk)this.#aN=
 #ag(){this.#ao=null;this.#bi=!1;this.#r=null;this.#z=0;this.#s=[];this.#G=0}
 #cd(written,an=!1){this.#af=written;this.#ap=an;this.#bj=this.#z;this.#bm=this.#bl=this.#n();this.#bk=0;this.isCarried=!0;this.#m.carried();this.#aq()}
 #q(){let N=this.#t;this.#t=null;this.#af=null;this.isCarried=!1;if(this.#n()-this.#bm>=di)this.#bo=0;this.#bm=Infinity;N?.end()}
-cut(){if(this.#t===null)return;let dr=this.isCarried;this.#q();this.#aM-=1;if(this.#K)return;if(this.version===3||this.#aM<1)this.#c();else{this.openLater();if(dr)this.#m.cut()}}
-#c(fault=null,covered=null,goesOn=!1){this.#K=!0;this.#q();this.#ce();let d=covered===null?null:this.#s.slice(covered-this.#G),lost=d&&d.filter(it=>it.startsWith("batch ")).length+Number(d[0]?.startsWith("do ")??!1);this.#ag();this.#m.over({fault,lost,goesOn})}
+cut(){if(this.#t===null)return;let dr=this.isCarried;this.#q();this.#aM-=1;if(this.#K)return;if(this.version===3||this.#aM<1)this.#d();else{this.openLater();if(dr)this.#m.cut()}}
+#d(fault=null,covered=null,goesOn=!1){this.#K=!0;this.#q();this.#ce();let d=covered===null?null:this.#s.slice(covered-this.#G),lost=d&&d.filter(it=>it.startsWith("batch ")).length+Number(d[0]?.startsWith("do ")??!1);this.#ag();this.#m.over({fault,lost,goesOn})}
 #aO(text){this.#aN=this.#n();let N=this.#t;for(let line of this.#T.take(text)){if(N!==this.#t||this.#r!==null)break;if(!this.isCarried)this.#df(line);else if(this.#dg(line))this.#bn.push(line)}
-this.#ce();if(N!==this.#t)return;this.#aq();if(this.#r!==null)this.#c(this.#r||null,this.#G,this.#r!==0)}
+this.#ce();if(N!==this.#t)return;this.#aq();if(this.#r!==null)this.#d(this.#r||null,this.#G,this.#r!==0)}
 #ce(){if(this.#bn.length>0)this.#m.hears(this.#bn.splice(0))}
-#df(line){if(this.#ao)this.#dh(line);else{let[,X,seconds,kept]=fields(dp,line)??[],[,word,number]=fields(aH,line)??[];if(X&&seconds<=dl){this.#aM=Infinity;Object.assign(this,{seconds:Number(seconds),isKept:kept!==undefined});this.#aP(X)}else if(word!=="error")this.cut();else if(Number(number)===42){this.version=3;this.open()}else this.#c(Number(number),0)}}
-#dh(line){let[,word,number]=fields(aH,line)??[],count=Number(number),ao=count>=this.#G&&count<=this.#G+this.#s.length;if(word===undefined||word==="got"||(word==="error"&&!dn.includes(count)))this.cut();else if(word==="resumed"){if(ao)this.#cd(count,!0);else this.#c(36)}else if(!this.#bi){this.#ag();this.cut()}else if(word==="error")this.#c(count);else this.#c(ao?null:35,ao?count:null,ao)}
+#df(line){if(this.#ao)this.#dh(line);else{let[,X,seconds,kept]=fields(dp,line)??[],[,word,number]=fields(aH,line)??[];if(X&&seconds<=dl){this.#aM=Infinity;Object.assign(this,{seconds:Number(seconds),isKept:kept!==undefined});this.#aP(X)}else if(word!=="error")this.cut();else if(Number(number)===42){this.version=3;this.open()}else this.#d(Number(number),0)}}
+#dh(line){let[,word,number]=fields(aH,line)??[],count=Number(number),ao=count>=this.#G&&count<=this.#G+this.#s.length;if(word===undefined||word==="got"||(word==="error"&&!dn.includes(count)))this.cut();else if(word==="resumed"){if(ao)this.#cd(count,!0);else this.#d(36)}else if(!this.#bi){this.#ag();this.cut()}else if(word==="error")this.#d(count);else this.#d(ao?null:35,ao?count:null,ao)}
 #dg(line){if(this.version===3)return !0;let[,word,number]=fields(aH,line)??[];if(word==="got")return this.#cf(Number(number));this.#z+=1;this.#bi||=line==="ready";this.#r=word==="error"?Number(number):line==="bye"?0:null;this.#ap||=this.#r!==null;return this.#r===null}
-#cf(count){if(count<this.#G||count>this.#af)this.#c(36);else{this.#s.splice(0,count-this.#G);this.#G=count}
+#cf(count){if(count<this.#G||count>this.#af)this.#d(36);else{this.#s.splice(0,count-this.#G);this.#G=count}
 return !1}
 #de(){if(!this.#U)queueMicrotask(()=>this.#aq());this.#U=!0}
 #aq(){this.#U=!1;if(!this.isCarried)return;let an=this.version>3&&(this.#ap||this.#z-this.#bj>=df),d=this.#r!==null?[]:this.#s.slice(this.#af-this.#G),text=[...(an?[`got ${this.#z}`]:[]),...d].map(line=>`${line}\n`).join("");if(text==="")return;if(an)[this.#ap,this.#bj]=[!1,this.#z];this.#af+=d.length;this.#bl=this.#n();if(this.version===3)this.#cf(this.#af);for(;text!=="";text=text.slice(bw))this.#t.send(text.slice(0,bw))}}
@@ -331,8 +331,8 @@ let e=new bL(now,0);for(let thing of new Set(this.#u.values()))this.#dx(thing,e.
 #dx(thing,found,taken){let change=thing.open.find(({nth})=>nth>=taken),aa=found!==undefined,f=found===thing.now.value,bM=change?found===Z(change.record,change.way)[0].value:f,comes=!aa&&!thing.isAway&&thing.born>=taken,av=aa&&thing.isAway&&thing.nth>=taken&&bM,bN=aa&&!thing.isAway&&!f&&bM,aT=comes||av||bN||thing.goal!==null,isAway=av||!(aa||comes);if(aa&&!(f||av||bN))thing.become({value:found,version:this.#av()});Object.assign(thing,{isLost:isAway&&!av&&(thing.isLost||!thing.isAway),isAway,by:null});Object.assign(thing,{open:aT&&change?[{...change,nth:Infinity}]:aQ,nth:aT?Infinity:-1,born:comes?Infinity:-1});if(aT)this.#o.add(thing)}
 undo(){return this.#co(this.#w,"undo")}
 redo(){return this.#co(this.#at,"redo")}
-#co(steps,way){let step=steps.pop();if(!step)return null;this.end();this.#bs.add(step);return new bO(way==="undo"?step.records.toReversed():[...step.records],{put:(record,e)=>this.#E(record,way,e),made:(record,took,nth)=>this.#Y(record,way,took,nth),end:left=>this.#c(step,steps,way,new Set(left))})}
-#c(step,steps,way,left){if(!this.#bs.delete(step))return;if(left.size>0)steps.push({...step,records:step.records.filter(it=>left.has(it)),how:null});let records=step.records.filter(it=>!left.has(it)),bP=way==="undo",to=bP?this.#at:this.#w;if(records.some(({isUndone})=>isUndone===bP))to.push({...step,records,how:null});else this.#X-=records.length}
+#co(steps,way){let step=steps.pop();if(!step)return null;this.end();this.#bs.add(step);return new bO(way==="undo"?step.records.toReversed():[...step.records],{put:(record,e)=>this.#E(record,way,e),made:(record,took,nth)=>this.#Y(record,way,took,nth),end:left=>this.#d(step,steps,way,new Set(left))})}
+#d(step,steps,way,left){if(!this.#bs.delete(step))return;if(left.size>0)steps.push({...step,records:step.records.filter(it=>left.has(it)),how:null});let records=step.records.filter(it=>!left.has(it)),bP=way==="undo",to=bP?this.#at:this.#w;if(records.some(({isUndone})=>isUndone===bP))to.push({...step,records,how:null});else this.#X-=records.length}
 #E(record,way,e){let{kind,thing}=record;if(record.isUndone!==(way==="redo")||thing.isLost)return !0;if(kind==="ins"||kind==="del"){let comes=(kind==="ins")===(way==="redo");if(comes)return!thing.isAway||this.#Z(thing,thing.name,e);if(!thing.isAway&&thing.now.version===record.version)e.delete(thing);return !0}
 let[from,to]=Z(record,way);if(thing.isAway||(kind==="mov"?thing.where:thing.now.version)!==from.version)return !0;if(kind!=="mov")return e.change(thing,to.value);if(e.roomFor(thing)<0)return !1;e.delete(thing);return this.#Z(thing,to.name,e)}
 #Z(thing,name,e){let place=-1;for(let it=name;place<0&&it!==null&&it!==undefined;it=this.#g.get(n(thing,it)))place=e.after(thing,it);return e.insert(thing,Math.max(place,0),name)}
@@ -388,7 +388,7 @@ async #aU(ab=!1){clearTimeout(this.#L);this.#L=null;if(this.#K||this.#a.isJoinin
 async open(){for(let[record,from]of await this.#dC().catch(()=>[])){this.#s.set(record.id,record);this.#ay(record,from)}
 this.#aU()}
 async #dC(){this.#ax=new BroadcastChannel(`gidzvruka ${this.#F}`);this.#ax.onmessage=({data})=>this.#e(data);for(let it of[this.#x,bU])this.#ax.postMessage(it);await this.#aT.change(()=>{});this.isKeeping=!0;await new Promise(ex=>setTimeout(ex,es));let bW=[];await this.#aT.change(u=>{u.getAll().onsuccess=({target})=>{for(let it of target.result.filter(({board,owner})=>board===this.#F&&!this.#cs.has(owner))){let record={...it,owner:this.#x};bW.push([record,it.owner]);u.put(record)}}});return bW}
-#e(data){if(data===bU)this.#ax.postMessage(this.#x);else if(data===bV)this.#c();else{this.#cs.add(data);for(let[id,{from,notice}]of this.#N){if(from!==data)continue;this.#N.delete(id);this.#s.delete(id);this.#a.notices.end(notice)}}}
+#e(data){if(data===bU)this.#ax.postMessage(this.#x);else if(data===bV)this.#d();else{this.#cs.add(data);for(let[id,{from,notice}]of this.#N){if(from!==data)continue;this.#N.delete(id);this.#s.delete(id);this.#a.notices.end(notice)}}}
 #ay({texts,...rest},from){let{notices,views}=this.#a;for(let{key,words,text}of texts)notices.add({view:views.get(key),words,text});if(rest.words)this.#bz({...rest,texts:[]},from)}
 #bz(record,from,undo=null){let{notices,link}=this.#a,{site}=link,aY=(undo??bT(record,site))?.torn;if(aY===undefined)return this.#cu(record);if(aY.size===0)return this.#q(record);let words=`${bX(record)}: ${Array.from(aY, ([key, { length }]) => this.#bA(key, length)).join(", ")}.`,text=record.words.map(([key,it])=>`${this.#bB(key)}:\n${it}`).join("\n\n"),notice=notices.add({words,text,isFolded:!0,choices:{"Bring in":()=>this.#dD(record.id),Discard:()=>this.#q(record)}});return this.#N.set(record.id,{record,from,notice,undo,site})}
 #cu(record){let{notices,views}=this.#a;for(let[key,text]of record.words)notices.add({view:views.get(key),words:`${bX(record)}. ${eu}`,text});this.#q(record)}
@@ -397,8 +397,8 @@ async #dC(){this.#ax=new BroadcastChannel(`gidzvruka ${this.#F}`);this.#ax.onmes
 #dD(id){let{takingBack,notices,link}=this.#a,{record,from,undo,site}=this.#N.get(id);if(!takingBack.isIdle){notices.add({words:ev});return this.#bz(record,from,undo)}
 let aZ=undo===null?bT(record,link.site):site===link.site?undo:null;if(aZ===null)return this.#cu(record);return takingBack.bringIn(aZ,{},isDone=>(isDone?this.#q(record):this.#bz(record,from,aZ)))}
 #q({id}){this.#N.delete(id);this.#aU(!0)}
-async forget(){this.#ax?.postMessage(bV);this.#c();let ey=({target:{result,source}})=>result.filter(({board})=>board===this.#F).forEach(({id})=>source.delete(id));await this.#aT.change(u=>(u.getAll().onsuccess=ey)).catch(()=>{})}
-#c(){this.#K=this.isRefused=!0;this.isKeeping=!1;for(let{notice}of this.#N.values())this.#a.notices.end(notice);this.#N.clear()}}
+async forget(){this.#ax?.postMessage(bV);this.#d();let ey=({target:{result,source}})=>result.filter(({board})=>board===this.#F).forEach(({id})=>source.delete(id));await this.#aT.change(u=>(u.getAll().onsuccess=ey)).catch(()=>{})}
+#d(){this.#K=this.isRefused=!0;this.isKeeping=!1;for(let{notice}of this.#N.values())this.#a.notices.end(notice);this.#N.clear()}}
 let bX=({time})=>`You wrote this here on ${new Date(time).toLocaleString("en", { weekday: "long", month: "long", day: "numeric" })}, and it was not sent`,bY=1500,ez=600,eA=6000,eB=500,bZ=matchMedia("(prefers-reduced-motion: reduce)"),found=id=>document.getElementById(id);function b(tag,attributes={},...children){let element=document.createElement(tag);for(let[name,value]of Object.entries(attributes)){if(typeof value==="function")element.addEventListener(name,value);else if(name in element)element[name]=value;else element.setAttribute(name,value)}
 element.append(...children);return element}
 function ba(ac,children){let kept=new Set(children);for(let it of[...ac.children])if(!kept.has(it))it.remove();let eC=children.find(element=>element.parentElement===ac&&element.contains(document.activeElement)),next=ac.firstChild;for(let it of children){while(it===eC&&it!==next){let after=next.nextSibling;ac.append(next);next=after}
@@ -519,16 +519,16 @@ confirmed(count){for(let name of this.#C.keys())this.#Q(name,count)}
 came(name,p,heard){let[first]=this.#Q(name,heard);if(!first)return null;let{before:base,step}=first;first.before=p;return{base,step}}
 isOpen(name,heard){return this.#Q(name,heard).length>0}
 #Q(name,count){let open=(this.#C.get(name)??[]).filter(({number})=>number>=count);if(open.length>0)this.#C.set(name,open);else this.#C.delete(name);return open}}
-let cq=80,cr=12;class fd{#d;#aD;#c=null;#aV=null;constructor(list,row){this.#d=list;this.#aD=row;this.element=b("button",{type:"button",className:"handle",textContent:"\u2195",title:"Drag, or press an arrow key",mousedown:a=>a.preventDefault(),pointerdown:a=>a.button===0&&this.#dN(a.pointerId)})}
+let cq=80,cr=12;class fd{#c;#aD;#d=null;#aV=null;constructor(list,row){this.#c=list;this.#aD=row;this.element=b("button",{type:"button",className:"handle",textContent:"\u2195",title:"Drag, or press an arrow key",mousedown:a=>a.preventDefault(),pointerdown:a=>a.button===0&&this.#dN(a.pointerId)})}
 set label(label){this.element.ariaLabel=`Move ${label}`}
-#dN(fe){if(this.#c||this.element.ariaDisabled==="true"||this.#d.hasJustMoved(this.#aD))return;let ae=new AbortController(),az=(kind,step)=>addEventListener(kind,step,{signal:ae.signal,capture:!0}),M=step=>a=>a.pointerId===fe&&step(a);this.#c=()=>ae.abort();this.#aD.element.classList.add("dragged");az("pointermove",M(({clientY})=>this.#aW(clientY)));az("pointerup",M(()=>this.#bI(!0)));az("pointercancel",M(()=>this.#bI(!1)));az("keydown",a=>a.key==="Escape"&&this.#bI(!1))}
-#aW(height){if(height<cq)scrollBy(0,-cr);if(height>innerHeight-cq)scrollBy(0,cr);this.#aV=this.#d.rowsAbove(height);this.#d.markLanding(this.#aV)}
-#bI(ff){let cs=this.#aV;this.#c();this.#c=null;this.#aV=null;this.#aD.element.classList.remove("dragged");this.#d.markLanding(null);if(ff&&cs!==null)this.#d.moveBelow(this.#aD,cs)}}
+#dN(fe){if(this.#d||this.element.ariaDisabled==="true"||this.#c.hasJustMoved(this.#aD))return;let ae=new AbortController(),az=(kind,step)=>addEventListener(kind,step,{signal:ae.signal,capture:!0}),M=step=>a=>a.pointerId===fe&&step(a);this.#d=()=>ae.abort();this.#aD.element.classList.add("dragged");az("pointermove",M(({clientY})=>this.#aW(clientY)));az("pointerup",M(()=>this.#bI(!0)));az("pointercancel",M(()=>this.#bI(!1)));az("keydown",a=>a.key==="Escape"&&this.#bI(!1))}
+#aW(height){if(height<cq)scrollBy(0,-cr);if(height>innerHeight-cq)scrollBy(0,cr);this.#aV=this.#c.rowsAbove(height);this.#c.markLanding(this.#aV)}
+#bI(ff){let cs=this.#aV;this.#d();this.#d=null;this.#aV=null;this.#aD.element.classList.remove("dragged");this.#c.markLanding(null);if(ff&&cs!==null)this.#c.moveBelow(this.#aD,cs)}}
 function ct(field){let C=field.value,cursor=H(C.slice(0,field.selectionEnd)).length;if(H(C)===C)return;field.value=H(C);field.setSelectionRange(cursor,cursor)}
 class cu{element=b("div");#bJ;#x;#b="";constructor(field,id){this.#bJ=field;this.#x=id}
 show(bd){let shown=JSON.stringify(bd.map(({words,choices})=>[words,Object.keys(choices)]));if(shown===this.#b)return;this.#b=shown;this.element.replaceChildren(...bd.map(it=>fg(this.#x,it)));if(bd.length>0)this.#bJ.setAttribute("aria-describedby",this.#x);else this.#bJ.removeAttribute("aria-describedby")}}
 function fg(id,{words,choices}){let W=Object.entries(choices).map(([name,click])=>b("button",{type:"button",textContent:name,mousedown:a=>a.preventDefault(),click}));return b("div",{className:"row wraps"},b("p",{id,className:"hint",textContent:words}),...W)}
-class fh{isGhost=!1;movedAt=-Infinity;#d;#p=null;#bK=!1;#ac=!1;#B=[];#cG="Others";#bL="others";#R;constructor(list,id,{name,value}){this.#d=list;Object.assign(this,{name,label:value});this.field=b("input",{type:"text",value,autocomplete:"off",dir:"auto",ariaLabel:`Item of ${list.name.textContent}`,focus:()=>(this.#cH(),(this.#p??=this.label)),input:a=>a.isComposing||this.#y(),compositionend:()=>this.#y(),paste:a=>list.pasted(a,this.field,this),keydown:a=>a.key==="Escape"&&!a.isComposing&&this.takeBack()});this.handle=new fd(list,this);this.remove=b("button",{type:"button",textContent:"\u00d7",click:()=>list.remove(this)});this.#R=new cu(this.field,id);this.element=b("li",{tabIndex:-1,focusout:a=>ca([this.field,this.#R.element],a)&&this.#bM()},b("div",{className:"row"},this.handle.element,this.field,this.remove),this.#R.element);this.#aE()}
+class fh{isGhost=!1;movedAt=-Infinity;#c;#p=null;#bK=!1;#ac=!1;#B=[];#cG="Others";#bL="others";#R;constructor(list,id,{name,value}){this.#c=list;Object.assign(this,{name,label:value});this.field=b("input",{type:"text",value,autocomplete:"off",dir:"auto",ariaLabel:`Item of ${list.name.textContent}`,focus:()=>(this.#cH(),(this.#p??=this.label)),input:a=>a.isComposing||this.#y(),compositionend:()=>this.#y(),paste:a=>list.pasted(a,this.field,this),keydown:a=>a.key==="Escape"&&!a.isComposing&&this.takeBack()});this.handle=new fd(list,this);this.remove=b("button",{type:"button",textContent:"\u00d7",click:()=>list.remove(this)});this.#R=new cu(this.field,id);this.element=b("li",{tabIndex:-1,focusout:a=>ca([this.field,this.#R.element],a)&&this.#bM()},b("div",{className:"row"},this.handle.element,this.field,this.remove),this.#R.element);this.#aE()}
 #aE(){this.handle.label=this.label;this.remove.ariaLabel=`Delete ${this.label}`}
 get hasFocus(){return document.activeElement===this.field}
 get isDraft(){return this.#p!==null&&(this.field.value!==this.#p||(this.isGhost&&this.#bK))}
@@ -538,34 +538,34 @@ get #aY(){return H(this.field.value).trim()}
 get isGood(){return this.#aX===""}
 setOpen(isOpen){this.field.readOnly=!isOpen;for(let it of[this.handle.element,this.remove])it.ariaDisabled=String(!isOpen)}
 show(label,by="Others"){if(label===this.label&&!this.isGhost)return;Object.assign(this,{label,isGhost:!1});this.#cG=by;this.#bL="others";if(this.#p===null)this.field.value=label;this.#aE();this.tell()}
-#cH(){let label=this.#d.labelOf(this);if(label!==undefined)this.show(label)}
-putBack(label){let cv=this.#p!==null&&!this.isDraft;if(cv)this.#p=null;this.show(label,"Undo");if(cv)this.#c()}
+#cH(){let label=this.#c.labelOf(this);if(label!==undefined&&!this.#c.page.isJoining)this.show(label)}
+putBack(label){let cv=this.#p!==null&&!this.isDraft;if(cv)this.#p=null;this.show(label,"Undo");if(cv)this.#d()}
 isTakenAway(){this.#bL="undo";if(!this.isDraft)this.#p=null}
 outlive(){this.isGhost=!0;this.#ac=!1;this.tell()}
 forget(){this.#p=null;this.#B=[];this.isGhost=!1;this.tell()}
 loses(){this.#bK=!0;this.#p??=this.label}
-races(base,p,step){let label=cn(base,this.label,p);if(label===this.label)return;if(label===null||K(label)!==""||!this.#d.relabel(this,label,step))this.#B.push(p);this.tell()}
-send(){if(!this.isDraft||this.isGhost||!this.isGood)return;this.#cH();let label=cn(this.#p,this.#aY,this.label);this.#ac=label===null||K(label)!=="";if(!this.#ac)this.#E(label);this.tell()}
-#E(label){if(label==="")this.#d.removeEmptied(this);else if(label===this.label||this.#d.relabel(this,label))this.#c()}
+races(base,p,step){let label=cn(base,this.label,p);if(label===this.label)return;if(label===null||K(label)!==""||!this.#c.relabel(this,label,step))this.#B.push(p);this.tell()}
+send(){if(!this.isDraft||this.isGhost||!this.isGood||this.#c.page.isJoining)return;this.#cH();let label=cn(this.#p,this.#aY,this.label);this.#ac=label===null||K(label)!=="";if(!this.#ac)this.#E(label);this.tell()}
+#E(label){if(label==="")this.#c.removeEmptied(this);else if(label===this.label||this.#c.relabel(this,label))this.#d()}
 #y(){ct(this.field);this.#ac=!1;this.tell()}
-#bM(){this.send();if(this.isDraft)this.tell();else if(this.isGhost)this.#d.drop(this);else this.#c()}
-#c(){this.#p=this.hasFocus?this.label:null;this.#ac=!1;this.field.value=this.label;this.tell()}
-takeBack(){if(this.isGhost)this.#d.drop(this);else this.#c()}
+#bM(){this.send();if(this.isDraft)this.tell();else if(this.isGhost)this.#c.drop(this);else this.#d()}
+#d(){this.#p=this.hasFocus?this.label:null;this.#ac=!1;this.field.value=this.label;this.tell()}
+takeBack(){if(this.isGhost)this.#c.drop(this);else this.#d()}
 #dO(){this.#p=this.label;this.send()}
-#dP(){let label=this.#aY===""?this.label:this.#aY;if(K(label)!==""||!this.#d.addAgain(this,label))return;this.#bK=!1;this.#c()}
-#cI(cw,fi){if(fi&&!this.#d.relabel(this,cw))return;this.#B.splice(this.#B.indexOf(cw),1);this.tell()}
-tell(){let cx=this.#aX!==""||this.#ac;this.element.classList.toggle("ghost",this.isGhost);this.field.ariaInvalid=String(cx);for(let it of[this.handle.element,this.remove])it.hidden=this.isGhost;this.#R.show([...this.#dQ()]);this.#d.page.notices.hold(this.element,this.#B.length>0||((cx||(this.isGhost&&this.isDraft))&&!this.hasFocus));this.#d.page.drafts.hold(this,this.isDraft)}
+#dP(){let label=this.#aY===""?this.label:this.#aY;if(K(label)!==""||!this.#c.addAgain(this,label))return;this.#bK=!1;this.#d()}
+#cI(cw,fi){if(fi&&!this.#c.relabel(this,cw))return;this.#B.splice(this.#B.indexOf(cw),1);this.tell()}
+tell(){let cx=this.#aX!==""||this.#ac;this.element.classList.toggle("ghost",this.isGhost);this.field.ariaInvalid=String(cx);for(let it of[this.handle.element,this.remove])it.hidden=this.isGhost;this.#R.show([...this.#dQ()]);this.#c.page.notices.hold(this.element,this.#B.length>0||((cx||(this.isGhost&&this.isDraft))&&!this.hasFocus));this.#c.page.drafts.hold(this,this.isDraft)}
 *#dQ(){let p=`${this.#cG} wrote \u201c${this.label}\u201d`,choices=(fj,take)=>({"Keep mine":fj,"Take theirs":take});if(this.#aX!=="")yield{words:this.#aX,choices:this.hasFocus||this.isGhost?{}:{Drop:()=>this.takeBack()}};if(this.isGhost)yield{words:`Deleted by ${this.#bL}`,choices:{"Add it again":()=>this.#dP(),Drop:()=>this.takeBack()}};else if(this.#ac)yield{words:p,choices:choices(()=>this.#dO(),()=>this.takeBack())};else if(this.#p!==null&&this.label!==this.#p)yield{words:p,choices:{}};for(let it of this.#B)yield{words:`Others wrote \u201c${it}\u201d at the same time`,choices:choices(()=>this.#cI(it,!1),()=>this.#cI(it,!0))}}}
-class fk{movedAt=-Infinity;#d;#aZ;#R;constructor(list,id){this.#d=list;this.field=b("input",{type:"text",id,placeholder:"add an item",autocomplete:"off",dir:"auto",enterKeyHint:"done",input:a=>a.isComposing||this.#y(),compositionend:()=>this.#y(),paste:a=>list.pasted(a,this.field)});this.#aZ=b("button",{type:"button",textContent:"+",click:()=>this.add()});this.#R=new cu(this.field,`${id}-hint`);this.element=b("div",{className:"foot",focusout:a=>ca([this.element],a)&&this.add()},b("div",{className:"row"},this.field,this.#aZ),this.#R.element)}
+class fk{movedAt=-Infinity;#c;#aZ;#R;constructor(list,id){this.#c=list;this.field=b("input",{type:"text",id,placeholder:"add an item",autocomplete:"off",dir:"auto",enterKeyHint:"done",input:a=>a.isComposing||this.#y(),compositionend:()=>this.#y(),paste:a=>list.pasted(a,this.field)});this.#aZ=b("button",{type:"button",textContent:"+",click:()=>this.add()});this.#R=new cu(this.field,`${id}-hint`);this.element=b("div",{className:"foot",focusout:a=>ca([this.element],a)&&this.add()},b("div",{className:"row"},this.field,this.#aZ),this.#R.element)}
 named(caption){this.field.ariaLabel=`Add to ${caption}`;this.#aZ.ariaLabel=`Add the item to ${caption}`}
 setOpen(isOpen){this.field.readOnly=!isOpen;this.#aZ.ariaDisabled=String(!isOpen)}
 get hasFocus(){return document.activeElement===this.field}
 get isDraft(){return this.#ba!==""}
 get #ba(){return H(this.field.value).trim()}
-add(){if(this.isDraft&&K(this.#ba)===""&&this.#d.append(this.#ba))this.field.value="";this.#l()}
+add(){if(this.isDraft&&K(this.#ba)===""&&this.#c.append(this.#ba))this.field.value="";this.#l()}
 takeBack(){this.field.value="";this.#l()}
 #y(){ct(this.field);this.#l()}
-#l(){let{notices,drafts}=this.#d.page,fault=K(this.#ba);this.field.ariaInvalid=String(fault!=="");this.#R.show(fault===""?[]:[{words:fault,choices:{}}]);notices.hold(this.element,fault!==""&&!this.hasFocus);drafts.hold(this,this.isDraft)}}
+#l(){let{notices,drafts}=this.#c.page,fault=K(this.#ba);this.field.ariaInvalid=String(fault!=="");this.#R.show(fault===""?[]:[{words:fault,choices:{}}]);notices.hold(this.element,fault!==""&&!this.hasFocus);drafts.hold(this,this.isDraft)}}
 let fl=500,ARROWS={ArrowUp:-1,ArrowDown:1};class fm extends aw{#i=new Map();#b=[];#ad=new cp();#cJ=!0;#aS=0;#cK=!1;constructor(...given){super(...given);this.name.id=`${this.id}-caption`;this.list=b("ol",{role:"list",tabIndex:-1,"aria-labelledby":this.name.id});this.foot=new fk(this,this.id);this.element=b("div",{className:"widget",role:"group","aria-labelledby":this.name.id,keydown:a=>a.isComposing||this.#bF(a)},this.head(this.name,this.copy),this.list,this.foot.element);for(let kind of["mousedown","click"])this.element.addEventListener(kind,a=>this.#dR(a),!0);this.named();this.draw()}
 named(){super.named();this.foot.named(this.name.textContent)}
 setOpen(isOpen){this.#cJ=isOpen;for(let it of[...this.#b,this.foot])it.setOpen(isOpen)}
@@ -603,6 +603,7 @@ pasted(a,field,row){let text=a.clipboardData.getData("text/plain"),d=fb(field.va
 #Z(place,labels){let left=labels.filter(it=>K(it)===""),fo=labels.filter(it=>K(it)!==""),step={};for(let at=Math.min(place,this.widget.items.length);left.length>0;){let commands=left.slice(0,D).map((value,ad)=>({verb:"ins",place:at+ad,value}));if(!this.edit(commands,step))break;at+=commands.length;left.splice(0,commands.length)}
 this.draw();let rest=[...left,...fo];if(rest.length>0)this.page.notices.add({view:this,words:`${x(rest.length, "line")} could not be added.`,text:rest.join("\n")})}
 append(label){let cz=this.edit([{verb:"ins",place:this.widget.items.length,value:label}])!==null;if(cz)this.draw();return cz}
+goOn(){this.sendDrafts()}
 hide(){for(let row of[...this.#b])row.send()}
 sendDrafts(){for(let row of this.#b.filter(({hasFocus})=>!hasFocus))row.send();if(!this.foot.hasFocus)this.foot.add()}
 get drafts(){return[...this.#b,this.foot].filter(it=>it.isDraft).map(({field})=>field.value)}

@@ -247,4 +247,4 @@ class Browser:
     def tab(self, **where):
         """A new tab, in a window of its own."""
         target = self.whole.call("Target.createTarget", url="about:blank", newWindow=True, **where)["targetId"]
-        return Tab(next(it for it in self.ask("list") if it["id"] == target)["webSocketDebuggerUrl"])
+        return Tab(f"ws://127.0.0.1:{self.port}/devtools/page/{target}")

@@ -1,8 +1,8 @@
 """Items of a list are drafts while they are typed: two at one item, items that others delete meanwhile, what can't be in an item, and what a click hits."""
 import time
 
-from browser import SHIFT, Late
-from stage import (ADD, ADD_HINT, COUNTED, FIELDS, GHOST, LABELS, NOTICES, OFFERED, PLUS, ROWS, STATE, WORDS, are_kept, button, expect, expect_that, hint, leave, paste, put, retype, row, select_all, together)
+from browser import SHIFT
+from stage import (ADD, ADD_HINT, COUNTED, FIELDS, GHOST, LABELS, NOTICES, OFFERED, PLUS, ROWS, STATE, WORDS, are_kept, button, clock_stands, comes, expect, expect_that, hint, leave, passes, paste, put, retype, row, select_all, together)
 
 ITEMS = ["bread", "milk", "eggs", "tea", "salt", "rice", "beans", "honey"]
 BOARD = "window 1\ntext 1 \"Hi\"\nlist 2 " + " ".join(f'"{it}"' for it in ITEMS) + "\ntext 3 \"\"\n"
@@ -84,7 +84,7 @@ def overlapping(stage):
         for tab, new in zip(stage.tabs, (f"oat {choice[0]}", f"rye {choice[0]}"), strict=True):
             retype(tab, field(was), new)
         leave(stage.a)
-        time.sleep(SEEN)
+        stage.b.until(f"{hint(f'rye {choice[0]}')}.includes('oat {choice[0]}')")
         leave(stage.b)
         stage.b.until(f"{button(choice, f'{ROWS}[0]')} !== undefined")
         expect_that(f"oat {choice[0]}" in stage.b.run(f"{ROWS}[0].querySelector('.hint:not([hidden])')?.textContent ?? ''"), "the row says what the other made of the item")
@@ -101,10 +101,9 @@ def overlapping_at_once(stage):
     for tab, new in zip(stage.tabs, ("oat bread", "rye bread"), strict=True):
         retype(tab, field("bread"), new)
     together(lambda: leave(stage.a), lambda: leave(stage.b))
-    end = time.monotonic() + 20
-    while time.monotonic() < end and not any(it.run(f"{button('Take theirs')} !== undefined") for it in stage.tabs):
-        time.sleep(0.05)
-    asked = [it.run(f"{button('Take theirs')} !== undefined") for it in stage.tabs]
+    are_asked = lambda: [it.run(f"{button('Take theirs')} !== undefined") for it in stage.tabs]
+    comes(lambda: any(are_asked()), True, "whether one is asked")
+    asked = are_asked()
     expect(asked.count(True), 1, "how many are asked")
     stage.tabs[asked.index(True)].click(button("Take theirs"))
     list_is(stage, [["rye bread", "oat bread"][asked.index(True)], *ITEMS[1:]])
@@ -319,7 +318,7 @@ def taken_back(stage):
     retype(stage.a, field("milk"), "cream")
     retype(stage.b, field("milk"), "oat milk")
     stage.b.press("Enter")
-    time.sleep(SEEN)
+    stage.a.until(f"{hint('cream')}.includes('oat milk')")
     stage.a.press("Escape")
     list_is(stage, changed("milk", "oat milk"))
 
@@ -389,24 +388,16 @@ def twice_on_a_cross(stage):
 
 def rows_that_moved(stage):
     """What others move under the pointer is not hit. A while later it is."""
-    labels = list(ITEMS)
-    for _ in range(5):
-        place = stage.a.middle(cross(labels[1]))
-        stage.a.run(f"window.movedAt = null, new MutationObserver(() => (movedAt ??= performance.now())).observe(document.querySelector('ol'), {{ childList: true }})")
-        stage.a.run("document.addEventListener('click', (event) => (window.clickedAt = event.timeStamp), { capture: true, once: true })")
-        stage.b.click(cross(labels[0]))
-        stage.a.until("movedAt !== null")
+    place = stage.a.middle(cross("milk"))
+    with clock_stands(stage.a):
+        stage.b.click(cross("bread"))
+        stage.a.until(f"!{LABELS}.includes('bread')")
+        passes(stage.a, AT_ONCE)
         stage.a.click_at(place)
-        labels = labels[1:]
-        if stage.a.run("clickedAt - movedAt") < 1000 * AT_ONCE:
-            break
-        labels = stage.agreed()[1]
-    else:
-        raise Late("no click came soon enough after the rows moved")
-    list_is(stage, labels)
-    time.sleep(LATER)
-    stage.a.click(cross(labels[1]))
-    list_is(stage, [labels[0], *labels[2:]])
+        list_is(stage, ITEMS[1:])
+        passes(stage.a, LATER - AT_ONCE)
+        stage.a.click_at(place)
+        list_is(stage, ["milk", *ITEMS[3:]])
 
 
 def rows_that_moved_below_plus(stage):
@@ -414,11 +405,12 @@ def rows_that_moved_below_plus(stage):
     stage.a.click(ADD)
     stage.a.type("pepper")
     place = stage.a.middle(PLUS)
-    stage.b.click(ADD)
-    stage.b.type("thyme")
-    stage.b.press("Enter")
-    stage.a.until(f"{LABELS}.includes('thyme')")
-    stage.a.click_at(place)
+    with clock_stands(stage.a):
+        stage.b.click(ADD)
+        stage.b.type("thyme")
+        stage.b.press("Enter")
+        stage.a.until(f"{LABELS}.includes('thyme')")
+        stage.a.click_at(place)
     leave(stage.a)
     expect(sorted(stage.agreed()[1]), sorted([*ITEMS, "thyme", "pepper"]), "the items")
 

@@ -196,11 +196,7 @@ def toggles_and_sliders(stage):
 
 def at_random(stage):
     together(lambda: stage.a.run(f"{AT_RANDOM}(11)"), lambda: stage.b.run(f"{AT_RANDOM}(77)"))
-    time.sleep(1)
-    for it in stage.tabs:
-        while it.run(DECIDE):
-            time.sleep(0.1)
-    stage.agreed()
+    stage.agreed(lambda tab: tab.run(DECIDE))
 
 
 def goes_to(tab, element):

@@ -3,7 +3,7 @@ import contextlib
 import json
 import time
 
-from stage import ADD, AREA, COUNTED, NOTICES, OFFERED, OPENED, STATE, TOGGLE, WORDS, are_kept, button, expect, expect_that, focus, leave, put, retype, row
+from stage import ADD, AREA, COUNTED, IS_JOINED, IS_OFFLINE, NOTICES, OFFERED, OPENED, STATE, TOGGLE, WORDS, are_kept, button, comes, expect, expect_that, focus, leave, put, retype, row
 from tunnel import OPENING, SHORT_GRACE, letters
 from undoing import by_keys
 
@@ -29,7 +29,7 @@ def types_offline(stage, text, start=None):
     stage.b.until(f"{STATE} === 'offline'")
     focus(stage.b, start)
     stage.b.type(text)
-    are_kept(stage.b, 1)
+    are_kept(stage.b, 1, text)
 
 
 @contextlib.contextmanager
@@ -140,7 +140,7 @@ def given_way(stage):
         leave(stage.a)
         focus(stage.a, 0, 2)
         stage.a.type("So it")
-        time.sleep(1)
+        stage.a.until(f"{STATE} === 'open'")
     is_offered(stage, ": 7 characters in Notes.")
     brings_in(stage)
     stage.agrees_on(f"So it really{OPENING[2:]}"[:12] + f" {OPENING[3:]}", ["bread", "cheese", "eggs"])
@@ -214,6 +214,7 @@ def of_another_run(stage):
     with closed(stage):
         types_offline(stage, "of then", 1)
         stage.server.stop()
+        stage.a.until(IS_OFFLINE)
         stage.server.start()
         stage.a.until(f"{STATE} === 'open'")
         focus(stage.a, 2)
@@ -232,7 +233,7 @@ def two_tabs(stage):
         stage.b.until(f"{STATE} === 'offline'")
         focus(stage.b)
         stage.b.type(text)
-        are_kept(stage.b, 1 if text == "one " else 2)
+        are_kept(stage.b, 1 if text == "one " else 2, text)
         stage.tabs.append(stage.b)
         stage.b = stage.tabs[1] = stage.browser.tab()
         stage.b.open(stage.far)
@@ -261,8 +262,9 @@ def two_that_open(stage):
         it.open(stage.far)
     time.sleep(OFFERS + 3)
     holds.close()
-    offering = [it.run(f"{NOTICES}.length") for it in others]
-    expect(sorted(offering), [0, 1], "how many notices each has")
+    offering = lambda: [it.run(f"{NOTICES}.length") for it in others]
+    comes(lambda: sorted(offering()), [0, 1], "how many notices each has")
+    offering = offering()
     others[offering.index(1)].close()
     stage.b = stage.tabs[1] = others[offering.index(0)]
     stage.b.reload()
@@ -282,6 +284,7 @@ def killed(stage):
     stage.lag.held = {"up"}
     focus(stage.b)
     stage.b.type(" again")
+    are_kept(stage.b, 1, " again")
     is_killed(stage.b)
     stage.lag.cut()
     stage.opens_again()
@@ -390,7 +393,7 @@ def moved(stage):
             stage.b.press("ArrowDown", 1)
         retype(stage.a, f"{row('eggs')}.querySelector('input')", "six eggs")
         leave(stage.a)
-        time.sleep(1)
+        stage.a.until(f"{STATE} === 'open'")
     brings_in(stage)
     stage.agrees_on(f"{OPENING}x", ["milk", "six eggs", "bread"])
     by_keys(stage.b)
@@ -404,7 +407,7 @@ def no_room(stage):
         stage.b.click(TOGGLE)
         focus(stage.a, 0)
         stage.a.type("abcde")
-        time.sleep(1)
+        stage.a.until(f"{STATE} === 'open'")
     brings_in(stage)
     stage.b.until(f"{OFFERED}.length === 1")
     expect(stage.b.run(OFFERED), ["34567"], "what is offered")
@@ -418,7 +421,7 @@ def a_full_order(stage):
         types_offline(stage, "too late")
         for tab in (stage.a, stage.browser.tab()):
             tab.open(stage.server.url)
-            tab.until(f"{STATE} === 'open'")
+            tab.until(IS_JOINED)
             focus(tab)
             tab.type("1234567")
             tab.until(f"{STATE} === 'full'")

@@ -82,8 +82,12 @@ class Lag:
             it.close() if it.transport.get_write_buffer_size() == 0 else it.transport.abort()
 
     def cut(self):
-        """Ends all links, and drops what is held."""
-        self.loop.call_soon_threadsafe(lambda: [it.transport.abort() for it in self.links])
+        """Ends all links, and drops what is held. None of that goes on before the links have ended."""
+        asyncio.run_coroutine_threadsafe(self.drop(), self.loop).result()
+
+    async def drop(self):
+        for it in self.links:
+            it.transport.abort()
         self.held = set()
 
     def cut_after(self, way, count):

@@ -1,15 +1,11 @@
 """A link that is lost, a server that starts again, and a board that takes no more edits."""
-import time
-
-from stage import ADD, AREA, COUNTED, IS_OFFLINE, NOTICES, OFFERED, STATE, WORDS, button, copied, expect, expect_that, focus
+from stage import ADD, AREA, COUNTED, IS_OFFLINE, NOTICES, OFFERED, STATE, WORDS, button, comes, copied, expect, expect_that, focus
 
 # All that the notices at a widget say and offer, and the widgets of a text and of a list.
 SAID = "[...%s.closest('.widget').querySelectorAll('.notice')].map((it) => [it.textContent, ...[...it.querySelectorAll('textarea')].map((area) => area.value)].join('\\n')).join('\\n')"
 OF_TEXT, OF_LIST = SAID % AREA, SAID % ADD
 # How many people a board takes.
 PEOPLE = 64
-# A server keeps the board within two seconds of a change.
-KEPT = 3
 
 
 def cursor(tab):
@@ -40,7 +36,7 @@ def a_server_that_stops(stage):
 
 def a_killed_server(stage):
     """What was typed before the kill and did not reach the server is offered. What was confirmed is on the board."""
-    time.sleep(KEPT)
+    comes(lambda: 'text 1 "Hi you"' in stage.server.kept(), True, "whether the board is kept")
     stage.lag.held = {"up"}
     focus(stage.b)
     stage.b.type(" and more")
@@ -73,8 +69,8 @@ def a_lost_link(stage):
     focus(stage.b, 0)
     stage.b.type("lost ")
     stage.b.press("ArrowRight")
-    stage.lag.cut()
-    stage.b.until(IS_OFFLINE)
+    with stage.lag.tunnel():
+        stage.b.until(IS_OFFLINE)
     stage.b.until(f"{STATE} === 'open'")
     if stage.lasts:
         stage.agrees_on("lost Hi you taken", ["buy bread", "call Ann", "late"])
@@ -95,12 +91,13 @@ def a_full_order(stage):
     stage.b.type(" xyz")
     stage.a.type(" 1234")
     stage.a.until(f"{STATE} === 'open'")
-    stage.lag.held = set()
-    stage.b.until(f"{STATE} === 'full'")
-    expect_that(" xyz" in stage.b.run(OF_TEXT), "what was refused is offered at the text")
+    # A hears of an edit of B's that is refused, and then takes none.
     stage.a.type("56")
     expect(stage.a.run(f"[{STATE}, {OFFERED}.length]"), ["full", 1], "the stage after an edit beyond the limit, and how many texts are offered")
     expect_that("5" in "".join(stage.a.run(OFFERED)), "an edit beyond the limit is offered")
+    stage.lag.held = set()
+    stage.b.until(f"{STATE} === 'full'")
+    expect_that(" xyz" in stage.b.run(OF_TEXT), "what was refused is offered at the text")
     stage.agrees_on("Hi 1234")
     for it in stage.tabs:
         expect_that(it.run(f"{AREA}.readOnly"), "a text cannot be edited")
@@ -119,6 +116,7 @@ def a_full_text(stage):
 def a_board_with_64_people(stage):
     """One more waits until one leaves, and comes in by itself."""
     stage.b.open("about:blank")
+    stage.a.until("document.getElementById('who').textContent === '1 connected'")
     stage.a.run(f"""(async () => {{
       const others = Array.from({{ length: {PEOPLE - 1} }}, () => new WebSocket(new URL('ws', location.href).href.replace('http', 'ws')));
       window.others = others;

@@ -3,7 +3,7 @@ import time
 
 from browser import SHIFT
 from drafts import cross, field
-from stage import ADD, LABELS, STATE, button, expect, expect_that, leave, row, select_all
+from stage import ADD, LABELS, STATE, button, comes, expect, expect_that, leave, row, select_all
 from undoing import NEWS, by_keys, each_way, relabels, says, unknown_to_b
 
 ALT = 1
@@ -48,12 +48,12 @@ def by_the_keys(stage):
     tab = stage.a
     tab.run(f"{field('milk')}.focus(), {FOCUS}.setSelectionRange(1, 3)")
     alt(tab, "ArrowDown")
-    tab.until(f"{NEWS} === 'milk, 3 of 5'", 10)
+    tab.until(f"{NEWS} === 'milk, 3 of 5'")
     list_is(stage, "bread", "eggs", "milk", "tea", "salt")
     expect(tab.run(f"[{FOCUS}.value, {FOCUS}.selectionStart, {FOCUS}.selectionEnd]"), ["milk", 1, 3], "the field with the cursor, and what is selected in it")
     for _ in range(3):
         alt(tab, "ArrowUp")
-    tab.until(f"{NEWS} === 'milk, 1 of 5'", 10)
+    tab.until(f"{NEWS} === 'milk, 1 of 5'")
     list_is(stage, "milk", "bread", "eggs", "tea", "salt")
     expect(tab.run(f"[{FOCUS}.value, {FOCUS}.selectionStart, {FOCUS}.selectionEnd]"), ["milk", 1, 3], "the field with the cursor, and what is selected in it")
     # With Tab to the handle, the arrows do it alone.
@@ -77,14 +77,15 @@ def with_a_draft(stage):
     types_in(stage.a, "milk", "oat milk")
     alt(stage.a, "ArrowDown")
     list_is_of(stage.b, ["bread", "eggs", "milk", "tea", "salt"])
-    expect(stage.a.run(f"[{FOCUS}.value, {STATE}]"), ["oat milk", "draft"], "the field with the cursor, and the stage")
+    expect(stage.a.run(f"{FOCUS}.value"), "oat milk", "the field with the cursor")
+    comes(lambda: stage.a.run(STATE), "draft", "the stage")
     stage.a.press("Enter")
     list_is(stage, "bread", "eggs", "oat milk", "tea", "salt")
 
 
 def list_is_of(tab, labels):
     """Waits until a tab shows these labels."""
-    tab.until(f"JSON.stringify({LABELS}) === JSON.stringify({labels!r})", 10)
+    comes(lambda: tab.run(LABELS), labels, "the list in one tab")
 
 
 def a_draft_of_others(stage):
@@ -239,8 +240,8 @@ def undone(stage, undo):
     moves(tab, "milk", "ArrowDown", 2)
     list_is(stage, "bread", "eggs", "tea", "milk", "salt")
     undo(tab)
-    list_is(stage, "bread", "eggs", "milk", "tea", "salt")
     says(tab, "Undone: 1 move in Who brings what")
+    list_is(stage, "bread", "eggs", "milk", "tea", "salt")
     undo(tab, "Redo")
     list_is(stage, "bread", "eggs", "tea", "milk", "salt")
     relabels(stage.b, "milk", "oat milk")

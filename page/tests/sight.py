@@ -7,10 +7,8 @@ import time
 
 import pdf
 from looks import CONTROLS, tree
-from stage import (ADD, AREA, COUNT, COUNTED, IS_OFFLINE, NOTICES, NUMBERS, OFFERED, RANGES, STATE, TOGGLE, WORDS, button, copied, expect, expect_that, focus, leave, named, put, retype, select_all)
+from stage import (ADD, AREA, COUNT, COUNTED, IS_OFFLINE, NOTICES, NUMBERS, OFFERED, RANGES, SOON, STATE, TOGGLE, WORDS, button, comes, copied, expect, expect_that, focus, leave, named, put, retype, select_all)
 
-# A server keeps the board within two seconds of a change.
-KEPT = 3
 # A window in which the board of the tests is higher than what is seen.
 NARROW = {"width": 420, "height": 480, "deviceScaleFactor": 1, "mobile": False}
 LINES = [f"line {it} of what is printed" for it in range(200)]
@@ -145,7 +143,7 @@ def lost_and_tried(stage):
         step()
         tab.until(f"tried.length > {count}", 2)
     stage.server.start()
-    tab.until(f"{STATE} === 'open'", 8)
+    tab.until(f"{STATE} === 'open'", 8 + stage.slack)
     expect(tab.run(f"{button('Try now')} === undefined"), True, "whether there is nothing to try")
 
 
@@ -219,7 +217,7 @@ def downloaded(stage, words, folder):
     """The content of the file that an item of the menu makes, and its name."""
     before = set(os.listdir(folder))
     menu(stage.a, words)
-    end = time.monotonic() + 20
+    end = time.monotonic() + SOON * stage.slack
     while time.monotonic() < end:
         new = [it for it in set(os.listdir(folder)) - before if not it.endswith(".crdownload")]
         if new:
@@ -244,9 +242,8 @@ def downloads(stage):
         focus(stage.b)
         stage.b.type("\u20ac")
         stage.agreed()
-        time.sleep(KEPT)
         name, text = downloaded(stage, "Download the printed board", folder)
-        expect(text, stage.server.kept(), f"the printed board in {name}")
+        comes(stage.server.kept, text, f"what the server keeps, as the printed board in {name} has it")
         name, text = downloaded(stage, "Download as text", folder)
         for it in ("Party", "Notes", 'Hi "you" \\ there\n\u00e9\U0001f600\u20ac', "Who brings what", 'buy "bread"', "C:\\call", "Everything is paid", "on", "Guests", "-5", "Later"):
             expect_that(it in text, f"{it!r} is in {name}: {text!r}")
@@ -307,7 +304,8 @@ def forced_colours(stage):
     tab.click(ADD)
     put(tab, "K\u00e4se")
     leave(tab)
-    expect(tab.run(f"[{COUNTED}, {STATE}]"), ["1 notice", "draft"], "the words of the head, and the stage")
+    expect(tab.run(COUNTED), "1 notice", "the words of the head")
+    comes(lambda: tab.run(STATE), "draft", "the stage")
     stage.picture(tab, "forced")
     tab.call("Emulation.setEmulatedMedia", features=[])
 
@@ -327,17 +325,18 @@ def coarse(stage):
 
 
 def what_is_heard(stage):
-    """The one region that is read out has a sentence in five seconds at most while another types, for as many seconds as this."""
+    """The one region that is read out has a sentence in five seconds at most while another types, for as many seconds as this or a few more."""
     seconds = 15
     tab = stage.a
     expect(tab.run("[...document.querySelectorAll('[aria-live], [role=status], [role=alert], [role=log]')].filter((it) => it.id !== 'news' && !it.closest('.notice, #notices, .hint')).map((it) => it.id || it.className)"), [], "what else is read out")
     tab.run("window.heard = [], new MutationObserver(() => { const said = document.getElementById('news').textContent; if (said) heard.push(said); }).observe(document.getElementById('news'), { childList: true, subtree: true, characterData: true })")
     focus(stage.b)
-    end = time.monotonic() + seconds
-    while time.monotonic() < end:
+    begun = time.monotonic()
+    while time.monotonic() < begun + seconds:
         stage.b.type("word ", 0.05)
     said = tab.run("heard")
-    expect_that(1 <= len(said) <= seconds / 5 + 1, f"between one and {seconds / 5 + 1:.0f} sentences are read out in {seconds} seconds: {said}")
+    most = (time.monotonic() - begun) / 5 + 1
+    expect_that(1 <= len(said) <= most, f"between one and {most:.1f} sentences are read out in {5 * (most - 1):.0f} seconds: {said}")
     expect_that(any("Notes" in it for it in said), f"they name what was changed: {said}")
 
 

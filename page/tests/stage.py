@@ -49,6 +49,8 @@ SHOWN = """[...document.querySelectorAll('main .widget')].map((it) => {
   return area ? area.value : list ? [...list.querySelectorAll('li:not(.ghost) input')].map((field) => field.value) : box ? box.checked : Number(range.value);
 })"""
 STATE = "document.body?.dataset.stage"
+# Whether a page has joined. A moment later it may know that the board is full.
+IS_JOINED = f"['open', 'full'].includes({STATE})"
 # Whether a page has no link: one of protocol 3 is lost, and one of protocol 4 waits for a connection.
 IS_OFFLINE = f"['lost', 'offline'].includes({STATE})"
 # The areas of texts. A notice in a widget may have an area too, which comes after that of the widget.
@@ -76,17 +78,41 @@ OFFERED = f"{NOTICES}.flatMap((it) => [...it.querySelectorAll('textarea[readonly
 
 # Does something with the store of the browser's records. `done` ends it.
 OPENED = "new Promise((done) => { const asked = indexedDB.open('gidzvruka'); asked.onupgradeneeded = () => asked.transaction.abort(); asked.onerror = () => done(0); asked.onsuccess = () => { const store = asked.result.transaction('records', 'readwrite').objectStore('records'); %s } })"
-COUNT_KEPT = OPENED % "store.count().onsuccess = ({ target }) => { asked.result.close(); done(target.result); };"
+ALL_KEPT = OPENED % "store.getAll().onsuccess = ({ target }) => { asked.result.close(); done(target.result); };"
 
 
-def are_kept(tab, count):
-    """Waits until the browser keeps so many records of the board's server."""
-    tab.until(f"(async () => await {COUNT_KEPT} === {count})()")
+def are_kept(tab, count, text=""):
+    """Waits until the browser keeps so many records of the board's server, and one of them offers a text."""
+    offers = f"JSON.stringify([it.words ?? [], it.texts]).includes({json.dumps(text)})"
+    tab.until(f"(async () => {{ const all = (await {ALL_KEPT}) || []; return all.length === {count} && ({count} === 0 || all.some((it) => {offers})); }})()")
+
+
+@contextlib.contextmanager
+def clock_stands(tab):
+    """In it the clocks of the page stand still, so what a slow machine does late counts as done immediately. They go on by `passes` alone."""
+    tab.run("(() => { const [now, date] = [performance.now(), Date.now()]; window.passed = 0; performance.now = () => now + passed; window.dateNow = Date.now; Date.now = () => date + passed; })()")
+    try:
+        yield
+    finally:
+        tab.run("delete performance.now, Date.now = dateNow, null")
+
+
+def passes(tab, seconds):
+    """The clocks that stand still go on by so many seconds."""
+    tab.run(f"passed += {1000 * seconds}")
 
 
 def expect(found, wanted, what):
     if found != wanted:
         raise Differs(f"{what}: expected {wanted!r}, but got {found!r}")
+
+
+def comes(look, wanted, what):
+    """Waits until a look finds what is wanted. It is for what needs the server or the other tab. What a tab does by itself is there immediately, as `expect` tests it."""
+    end = time.monotonic() + PATIENCE
+    while (found := look()) != wanted and time.monotonic() < end:
+        time.sleep(0.05)
+    expect(found, wanted, what)
 
 
 def expect_that(is_so, what):
@@ -183,7 +209,7 @@ class Stage:
         if before:
             self.opens_beside(self.b, before)
         self.b.open(self.far)
-        self.b.until(f"{STATE} === 'open'")
+        self.b.until(IS_JOINED)
 
     def opens_beside(self, tab, code):
         """Opens something of the server beside the board, and evaluates code there."""
@@ -196,13 +222,14 @@ class Stage:
         if self.shots:
             tab.shot(f"{self.shots}/{name}.png")
 
-    def agreed(self):
-        """Waits until both tabs show the same, and have nothing that is not confirmed. Returns what they show."""
+    def agreed(self, decides=lambda tab: False):
+        """Waits until both tabs show the same, and have nothing that is not confirmed. Returns what they show. `decides` does what a tab waits for, and returns whether there was something."""
         end = time.monotonic() + PATIENCE
         since, last = time.monotonic(), None
         while time.monotonic() < end:
+            has_decided = any([decides(it) for it in self.tabs])
             shown = [it.run(SHOWN) for it in self.tabs]
-            is_quiet = all(it.run(STATE) in ("open", "full") for it in self.tabs)
+            is_quiet = not has_decided and all(it.run(STATE) in ("open", "full") for it in self.tabs)
             if not is_quiet or shown[0] != shown[1] or shown[0] != last:
                 since, last = time.monotonic(), shown[0]
             elif time.monotonic() - since > STEADY:

@@ -123,7 +123,7 @@ def a_composed_word(stage):
     focus(stage.b)
     for count, words in ((1, "1 change comes after this word"), (2, "2 changes come after this word")):
         stage.b.type("x")
-        stage.a.until(f"{CAPTION}.includes('{words}')", 10)
+        stage.a.until(f"{CAPTION}.includes('{words}')")
         expect(stage.a.run(f"{AREA}.value.endsWith('x')"), False, f"whether the {count} changes wait")
     stage.a.call("Input.imeSetComposition", text="\u306b\u307b", selectionStart=2, selectionEnd=2)
     put(stage.a, "\u65e5\u672c")

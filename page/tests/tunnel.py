@@ -4,7 +4,7 @@ import string
 import threading
 import time
 
-from stage import ADD, AREA, COUNTED, FIELDS, IS_OFFLINE, NOTICES, OFFERED, STATE, TOGGLE, WORDS, button, expect, expect_that, focus, leave, put, retype, row
+from stage import ADD, AREA, COUNTED, FIELDS, IS_OFFLINE, NOTICES, OFFERED, STATE, TOGGLE, WORDS, button, clock_stands, expect, expect_that, focus, leave, put, retype, row
 from undoing import by_keys
 
 # For how many seconds the links of the long parts wait for a connection, and those of the short ones.
@@ -20,6 +20,19 @@ CUTS = 100
 BOARD = 'window 1\ntext 1 "It begins so: "\nlist 2 "bread" "milk" "eggs"\ntoggle 3 off\nslider 4 0 10 5\n'
 LONG_BOARD = 'window 1\ntext 1 "' + "abcdefghij" * (LONG // 10) + '"\n'
 OPENING = "It begins so: "
+# Types behind two items and leaves them, as soon as the page brings something in.
+LEAVES_ONCE_IT_JOINS = """new MutationObserver((_, it) => {
+  if (document.body.dataset.stage !== 'joining') return;
+  it.disconnect();
+  for (const [label, more] of [['oat milk', ' shake'], ['bread', ' and jam']]) {
+    const field = [...document.querySelectorAll('ol input')].find((one) => one.value === label);
+    field.focus();
+    field.value += more;
+    field.dispatchEvent(new InputEvent('input', { bubbles: true }));
+    field.blur();
+  }
+  window.stageThen = document.body.dataset.stage;
+}).observe(document.body, { attributes: true })"""
 
 
 def letters(count):
@@ -80,13 +93,14 @@ def says_how_it_is(stage):
     focus(stage.b)
     with stage.lag.tunnel():
         stage.b.until(f"{STATE} === 'offline'")
-        stage.b.type("abc")
-        expect(stage.b.run(f"[{WORDS}, {AREA}.readOnly]"), ["Offline. 3 edits wait on this device", False], "the head, and whether the text is shut")
+        with clock_stands(stage.b):
+            stage.b.type("abc")
+            expect(stage.b.run(f"[{WORDS}, {AREA}.readOnly]"), ["Offline. 3 edits wait on this device", False], "the head, and whether the text is shut")
         expect_that(stage.b.run(f"{button('Try now')} !== undefined"), "it can be tried now")
         by_keys(stage.b)
         expect(stage.b.run(f"{AREA}.value"), OPENING, "the text, undone without a link")
         by_keys(stage.b, "Redo")
-        stage.b.until(f"{WORDS}.startsWith('Offline since ')", SHORT_GRACE + 5)
+        stage.b.until(f"{WORDS}.startsWith('Offline since ')", SHORT_GRACE + 4 + stage.slack)
         expect(stage.b.run(f"/^Offline since \\d\\d:\\d\\d\\. What you type is kept here and goes to the board later$/.test({WORDS})"), True, "whether the head says since when")
     stage.b.until(f"{STATE} === 'open'")
     stage.agrees_on(f"{OPENING}abc")
@@ -169,6 +183,25 @@ def typed_while_it_joins(stage):
     expect(stage.agreed()[0].removeprefix(OPENING), text + typist.typed, "what comes after the opening")
 
 
+def left_while_it_joins(stage):
+    """Items that are left while a long text is brought in are sent after it. They have what the page had made of them, and what others have."""
+    a, b = stage.tabs
+    milk = f"{row('milk')}.querySelector('input')"
+    with stage.lag.tunnel():
+        b.until(f"{STATE} === 'offline'")
+        focus(b)
+        put(b, "." * LONG)
+        b.until(f"!{AREA}.readOnly")
+        retype(b, milk, "oat milk")
+        leave(b)
+        b.run(LEAVES_ONCE_IT_JOINS)
+        retype(a, f"{row('bread')}.querySelector('input')", "brown bread")
+        leave(a)
+        time.sleep(SHORT_GRACE + 2)
+    b.until("window.stageThen === 'joining'")
+    expect(stage.agreed()[1], ["brown bread and jam", "oat milk shake", "eggs"], "the list")
+
+
 def no_room(stage):
     """The text is full by the time that the page joins again. What has no room is offered, and the rest of the work is brought in."""
     a, b = stage.tabs
@@ -228,8 +261,8 @@ def tried_soon(stage):
 def a_slow_way(stage):
     """A long deletion over a slow way is done, and the page is never offline."""
     stage.lag.rates = {"up": SLOW}
-    stage.lag.cut()
-    stage.b.until(IS_OFFLINE)
+    with stage.lag.tunnel():
+        stage.b.until(IS_OFFLINE)
     stage.b.until(f"{STATE} === 'open'")
     stage.b.run("window.stages = new Set(), new MutationObserver(() => stages.add(document.body.dataset.stage)).observe(document.body, { attributes: true })")
     focus(stage.b, 0, LONG)
@@ -252,6 +285,7 @@ SHORT_PARTS = {
     "a tunnel: a move is brought in": moved_without_a_link,
     "a tunnel: lost twice": lost_twice,
     "a tunnel: typed while it joins": typed_while_it_joins,
+    "a tunnel: items that are left while it joins": left_while_it_joins,
 }
 FULL_PARTS = {"a tunnel: no room": no_room}
 FULL_BOARD = f'window 1\ntext 1 "{"a" * 65_529}"\ntoggle 3 off\n'

@@ -2,9 +2,9 @@
 import time
 
 from browser import CONTROL, SHIFT
-from drafts import cross, field, list_is, others_see
+from drafts import cross, field, list_is
 from editing import AT_RANDOM, DECIDE, pasted
-from stage import (ADD, AREA, COUNTED, FIELDS, IS_OFFLINE, LABELS, NUMBERS, OTHER_AREA, RANGES, STATE, TOGGLE, WORDS, button, expect, expect_that, focus, leave, put, retype, row, select_all, together)
+from stage import (ADD, AREA, COUNTED, FIELDS, IS_OFFLINE, LABELS, NUMBERS, OTHER_AREA, RANGES, STATE, TOGGLE, button, clock_stands, comes, expect, expect_that, focus, leave, passes, put, retype, row, select_all, together)
 
 BOARD = "window 1\ntext 1 \"abcdef\"\nlist 2 \"bread\" \"milk\" \"eggs\"\ntoggle 3 off\nslider 4 0 10 5\nwindow 2\ntext 1 \"\"\nslider 2 -100 100 0\n"
 OPENING = ["abcdef", ["bread", "milk", "eggs"], False, 5, "", 0]
@@ -44,8 +44,8 @@ WAYS = {"by keys": by_keys, "by a menu": by_a_menu, "by the buttons": by_a_butto
 
 
 def says(tab, words):
-    """Waits until the page says this, beside a caption."""
-    tab.until(f"{REMARKS}.includes({words!r})", 10)
+    """Waits until the page says this, beside a caption. It does so for a few seconds, so nothing else is waited for before."""
+    tab.until(f"{REMARKS}.includes({words!r})")
 
 
 def each_way(part):
@@ -71,13 +71,13 @@ def typed_in_front(stage, undo):
     stage.b.type(" you")
     stage.agrees_on("abcdefHello you")
     undo(stage.a)
-    stage.agrees_on("abcdef you")
     says(stage.a, "Undone: 5 characters in Notes")
+    stage.agrees_on("abcdef you")
     expect(stage.a.run(f"document.activeElement === {AREA}"), True, "whether the cursor is still in the text")
     expect(stage.a.run(f"{AREA}.selectionStart"), 6, "the cursor after the undo")
     undo(stage.a, "Redo")
-    stage.agrees_on("abcdefHello you")
     says(stage.a, "Done again: 5 characters in Notes")
+    stage.agrees_on("abcdefHello you")
 
 
 def typed_around(stage, undo):
@@ -120,8 +120,8 @@ def an_item_that_others_relabelled(stage, undo):
     relabels(stage.b, "tea", "green tea")
     list_is(stage, [*OPENING[1], "green tea"])
     undo(stage.a)
-    list_is(stage, [*OPENING[1], "green tea"])
     says(stage.a, "Others have changed this since")
+    list_is(stage, [*OPENING[1], "green tea"])
 
 
 def a_label_that_others_gave(stage, undo):
@@ -199,9 +199,8 @@ def a_deleted_item(stage, undo):
     stage.a.click(cross("milk"))
     list_is(stage, ["bread", "eggs"])
     undo(stage.a)
-    list_is(stage, OPENING[1])
     says(stage.a, "Undone: 1 item in Who brings what")
-    stage.agreed()
+    list_is(stage, OPENING[1])
     # The server takes A's deletion first, so B's undo finds that it is none of B's.
     unknown_to_b(stage, lambda: stage.a.click(cross("milk")), lambda: (stage.b.click(cross("milk")), undo(stage.b)))
     list_is(stage, ["bread", "eggs"])
@@ -227,6 +226,7 @@ def a_long_paste(stage):
     stage.agreed()
     stage.a.run("edits = 0, window.told = new Set(), new MutationObserver(() => told.add(document.getElementById('state').textContent)).observe(document.getElementById('state'), { childList: true })")
     undoing = takes(stage.a, lambda: undo_and_go_on(stage.a))
+    says(stage.a, "Undone: 20,000 characters in More \"notes\"")
     expect(stage.agreed()[4], "mine", "the text")
     expect(stage.a.run(f"{AREA}.value.slice(0, 3)"), "own", "what is typed in another text meanwhile")
     edits = stage.a.run("edits")
@@ -234,7 +234,6 @@ def a_long_paste(stage):
     expect_that(stage.a.run("[...told].some((it) => it.endsWith('to go'))"), "the head counts what is to go")
     print(f"page: {PASTED} characters are pasted in {pasting:.1f} s, and undone in {undoing:.1f} s and {edits} edits", flush=True)
     expect_that(undoing <= MOST_TIMES * stage.slack * pasting, f"it takes {undoing} s, and the paste {pasting} s")
-    says(stage.a, "Undone: 20,000 characters in More \"notes\"")
 
 
 def undo_and_go_on(tab):
@@ -244,10 +243,9 @@ def undo_and_go_on(tab):
 
 
 def takes(tab, step):
-    """How many seconds it takes until the server has what a step makes."""
+    """How many seconds it takes until the server has what a step makes. The step begins to make it immediately."""
     begun = time.monotonic()
     step()
-    tab.until(f"{STATE} === 'sending'")
     tab.until(f"{STATE} === 'open'", 180)
     return time.monotonic() - begun
 
@@ -263,15 +261,16 @@ def a_paste_that_goes_on(stage):
 def steps_of_typing(stage):
     """A run of typing is a step: a pause, a line feed, another place and another text end it."""
     focus(stage.a)
-    stage.a.type("one")
-    time.sleep(PAUSE)
-    stage.a.type("two\nthree")
-    stage.a.press("ArrowLeft")
-    stage.a.type("4")
-    focus(stage.a, area=OTHER_AREA)
-    stage.a.type("five")
-    stage.a.press("Backspace")
-    stage.a.press("Backspace")
+    with clock_stands(stage.a):
+        stage.a.type("one")
+        passes(stage.a, PAUSE)
+        stage.a.type("two\nthree")
+        stage.a.press("ArrowLeft")
+        stage.a.type("4")
+        focus(stage.a, area=OTHER_AREA)
+        stage.a.type("five")
+        stage.a.press("Backspace")
+        stage.a.press("Backspace")
     stage.agrees_on("abcdefonetwo\nthre4e")
     seen = []
     for _ in range(6):
@@ -287,7 +286,8 @@ def steps_of_typing(stage):
 def steps_of_one_act(stage):
     """A replaced selection with what is typed on, a composed word, several lines and a drag of a slider are one step each."""
     focus(stage.a, 1, 4)
-    stage.a.type("XY")
+    with clock_stands(stage.a):
+        stage.a.type("XY")
     stage.agrees_on("aXYef")
     by_keys(stage.a)
     stage.agrees_on("abcdef")
@@ -349,11 +349,12 @@ def beside_a_draft(stage):
     expect(stage.a.run("document.activeElement.value"), "bread", "the field with the cursor")
     # A draft that can't be sent stays, and the row says what undo made of the item.
     by_keys(stage.a, "Redo")
+    stage.b.until(f"{LABELS}[0] === 'rolls'")
     retype(stage.a, field("rolls"), UNFIT)
     leave(stage.a)
     by_keys(stage.a)
-    stage.b.until(f"{LABELS}[0] === 'bread'")
-    expect(stage.a.run(f"[{FIELDS}[0].value, {STATE}, {COUNTED}]"), [UNFIT, "draft", "1 notice"], "the draft, the stage and the notices")
+    expect(stage.a.run(f"[{FIELDS}[0].value, {COUNTED}]"), [UNFIT, "1 notice"], "the draft and the notices")
+    comes(lambda: [stage.a.run(STATE), stage.b.run(LABELS)[0]], ["draft", "bread"], "the stage, and the label that others see")
     expect_that("Undo wrote \u201cbread\u201d" in stage.a.run(f"{row(UNFIT)}.textContent"), "the row says what undo made of the item")
     stage.a.click(ADD)
     stage.a.type("te")
@@ -418,10 +419,10 @@ def in_view(stage):
     tab.type("x")
     tab.run("scrollTo(0, document.documentElement.scrollHeight)")
     by_keys(tab)
+    tab.until(f"{NEWS}.includes('Undone: 1 character in Notes')")
     stage.agrees_on("abcdef")
     top, bottom, head = tab.run(f"(() => {{ const b = {AREA}.getBoundingClientRect(); return [b.y, b.bottom, document.querySelector('header').offsetHeight]; }})()")
     expect_that(top >= head and bottom <= 400, f"the text is in view, from {top} to {bottom} below a head of {head}")
-    tab.until(f"{NEWS}.includes('Undone: 1 character in Notes')", 10)
 
 
 def after_a_loss(stage):
@@ -457,8 +458,8 @@ def a_link_of_the_same_run(stage):
     focus(stage.b)
     stage.b.type("Hello")
     stage.agrees_on("abcdefHello")
-    stage.lag.cut()
-    stage.b.until(IS_OFFLINE)
+    with stage.lag.tunnel():
+        stage.b.until(IS_OFFLINE)
     stage.b.until(f"{STATE} === 'open'")
     by_keys(stage.b)
     stage.agrees_on("abcdef")
@@ -475,11 +476,7 @@ def at_random(stage):
         by_keys(stage.a, "Redo")
     expect(stage.agreed(), after, "the board, all done again")
     together(lambda: stage.a.run(f"{AT_RANDOM}(5)"), lambda: stage.b.run(f"{AT_RANDOM}(77)"))
-    time.sleep(1)
-    for it in stage.tabs:
-        while it.run(DECIDE):
-            time.sleep(0.1)
-    stage.agreed()
+    stage.agreed(lambda tab: tab.run(DECIDE))
     together(lambda: undo_all(stage.a), lambda: undo_all(stage.b))
     stage.agreed()
 

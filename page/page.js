@@ -8,7 +8,7 @@ import { openMenu } from "./menu.js";
 import { Held, Notices } from "./notices.js";
 import { Status } from "./status.js";
 import { TakingBack } from "./taking_back.js";
-import { counted, reasonOf, shownAs } from "./texts.js";
+import { UNSENT, counted, reasonOf, shownAs } from "./texts.js";
 import { Untaken } from "./untaken.js";
 import { found } from "./view.js";
 import { Windows } from "./windows.js";
@@ -23,7 +23,6 @@ const NEEDED = SHORT / MOST_OPERATIONS;
 const WHO = 5000;
 // The refusals that a user can meet. Any other fault of an edit is a mistake of the page.
 const REFUSALS = new Set([FAULT.LongText, FAULT.Backlog, FAULT.NoMemory, FAULT.Spent, FAULT.LogFull]);
-const UNSENT = "You typed this here, and it was not sent.";
 const isFull = (fault) => fault === FAULT.Spent || fault === FAULT.LogFull;
 // The ends of a link that a user need not know: the page joins again.
 const UNSAID = new Set([null, FAULT.Full, FAULT.NoSuchLink, FAULT.BadTaken, FAULT.BadVersion]);
@@ -53,6 +52,7 @@ class Page {
   #reasons = new Map(); // the notices that say why something was refused, by their words
   #isWaiting = false; // whether the server has no room for this page
   #isWorking = false; // whether a task goes on with jobs
+  #isMoving = false; // whether it goes from one board to another
   #status = new Status();
 
   constructor(captions) {
@@ -108,6 +108,7 @@ class Page {
     const isSame = !isFirst && site.site > old.site && (this.#ended.goesOn || isSameRun(old, site));
     // A page that went on without its link makes again what the server has not taken.
     const goesOn = isSame && old.stage === "open" && !this.isReadOnly;
+    this.#isMoving = true;
     const taken = goesOn ? (this.#ended.taken ?? this.untaken.taken(old, site.board)) : Infinity;
     if (!goesOn) this.#lose(old);
     else {
@@ -117,6 +118,7 @@ class Page {
     this.#shown = site;
     this.#isWaiting = false;
     this.#windows.show(this.board, isSame);
+    this.#isMoving = false;
     if (!isFirst) this.takingBack.joined(old.board, isSame, taken);
     this.#drawing.now();
     if (!goesOn) this.#jobs = this.untaken.settle(isSame);
@@ -280,7 +282,7 @@ class Page {
 
   // Whether it brings in what it did without a link. Views then stay as they are.
   get isJoining() {
-    return this.#jobs[0]?.isFirst ?? false;
+    return this.#isMoving || (this.#jobs[0]?.isFirst ?? false);
   }
 
   #hasRoom(edits) {

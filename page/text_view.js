@@ -1,6 +1,6 @@
 // The view of a text.
 import { Job } from "./jobs.js";
-import { counted, difference, placeOf, scalarsOf, shownAs, textOf } from "./texts.js";
+import { UNSENT, counted, difference, placeOf, scalarsOf, shownAs, textOf } from "./texts.js";
 import { View, make } from "./view.js";
 
 // A paste of more characters is made by the page, since a browser can take seconds to put it into an area.
@@ -39,7 +39,16 @@ export class TextView extends View {
   }
 
   forgetNames() {
+    for (const text of this.drafts) this.page.notices.add({ view: this, words: UNSENT, text });
     this.items = null;
+  }
+
+  // What is typed while the page joins, or within a word, is in no edit yet.
+  get drafts() {
+    const { value } = this.area;
+    if (value === this.shown) return [];
+    const { head, tail } = difference(this.shown, value);
+    return [value.slice(head, value.length - tail)].filter((it) => it !== "");
   }
 
   #keep(items, shown) {

@@ -68,6 +68,8 @@ export function readCaptions(text) {
 
 export const counted = (count, thing) => `${count.toLocaleString("en")} ${thing}${count === 1 ? "" : "s"}`;
 
+export const UNSENT = "You typed this here, and it was not sent.";
+
 const REASONS = {
   [FAULT.LongText]: "A text or a list has at most 65,536 items.",
   [FAULT.Backlog]: "Too much waits for the server. Try again in a moment.",

@@ -13,6 +13,8 @@ GRACE, SHORT_GRACE = 20, 2
 SPEED = 10
 # How many bytes a slow way takes in a second, and how many characters are deleted there.
 SLOW, LONG = 5_000, 6_000
+# How many characters a page takes without a link, at once and then eight times. There are so many edits of them that it can't bring in all at once.
+MOST_PASTED, MOST_PUT = 30_600, 250
 # Within how many seconds of a user's act the page tries again, and after how many else.
 ACT, REST = 1, 6
 # How many bytes of a way are cut after, one after the other.
@@ -183,6 +185,43 @@ def typed_while_it_joins(stage):
     expect(stage.agreed()[0].removeprefix(OPENING), text + typist.typed, "what comes after the opening")
 
 
+def joins_for_long(stage):
+    """B has done so much without a link that it has to wait for the server to bring it in, and types on. Returns what is in the text."""
+    focus(stage.b)
+    with stage.lag.tunnel():
+        stage.b.until(f"{STATE} === 'offline'")
+        for count in (MOST_PASTED, *[MOST_PUT] * 8):
+            put(stage.b, "." * count)
+            stage.b.until(f"!{AREA}.readOnly")
+        time.sleep(SHORT_GRACE + 2)
+        stage.lag.rates = {"up": SLOW}
+    stage.b.until(f"{STATE} === 'joining'")
+    stage.lag.held = {"up"}
+    stage.b.type("meanwhile")
+    expect(stage.b.run(STATE), "joining", "the stage")
+    stage.lag.rates = {}
+    return OPENING + "." * (MOST_PASTED + 8 * MOST_PUT) + "meanwhile"
+
+
+def typed_before_the_link_ends(stage):
+    """Keys that are pressed while a long text is brought in come after it, if the link ends meanwhile."""
+    text = joins_for_long(stage)
+    with stage.lag.tunnel():
+        time.sleep(SHORT_GRACE + 2)
+    stage.agrees_on(text)
+
+
+def typed_before_the_server_ends(stage):
+    """They are offered, if the server ends meanwhile and starts again."""
+    joins_for_long(stage)
+    stage.server.kill()
+    stage.lag.cut()
+    stage.b.until(IS_OFFLINE)
+    stage.server.start()
+    stage.b.until(f"{STATE} === 'open'")
+    expect(stage.b.run(f"{OFFERED}.filter((it) => it.includes('meanwhile'))"), ["meanwhile"], "what is offered of it")
+
+
 def left_while_it_joins(stage):
     """Items that are left while a long text is brought in are sent after it. They have what the page had made of them, and what others have."""
     a, b = stage.tabs
@@ -285,6 +324,8 @@ SHORT_PARTS = {
     "a tunnel: a move is brought in": moved_without_a_link,
     "a tunnel: lost twice": lost_twice,
     "a tunnel: typed while it joins": typed_while_it_joins,
+    "a tunnel: typed before the link ends again": typed_before_the_link_ends,
+    "a tunnel: typed before the server ends": typed_before_the_server_ends,
     "a tunnel: items that are left while it joins": left_while_it_joins,
 }
 FULL_PARTS = {"a tunnel: no room": no_room}

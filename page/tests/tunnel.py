@@ -13,7 +13,7 @@ GRACE, SHORT_GRACE = 20, 2
 SPEED = 10
 # How many bytes a slow way takes in a second, and how many characters are deleted there.
 SLOW, LONG = 5_000, 6_000
-# How many characters a page takes without a link, at once and then eight times. There are so many edits of them that it can't bring in all at once.
+# How many characters a page takes without a link: first, and then each of eight times. These are so many edits that it waits for the server to bring them in.
 MOST_PASTED, MOST_PUT = 30_600, 250
 # Within how many seconds of a user's act the page tries again, and after how many else.
 ACT, REST = 1, 6

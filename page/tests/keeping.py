@@ -3,7 +3,7 @@ import contextlib
 import json
 import time
 
-from stage import ADD, AREA, COUNTED, IS_JOINED, IS_OFFLINE, NOTICES, OFFERED, OPENED, STATE, TOGGLE, WORDS, are_kept, button, comes, expect, expect_that, focus, leave, put, retype, row
+from stage import ADD, ALL_KEPT, AREA, COUNTED, IS_JOINED, IS_OFFLINE, NOTICES, OFFERED, OPENED, STATE, TOGGLE, WORDS, are_kept, button, comes, expect, expect_that, focus, leave, put, retype, row
 from tunnel import OPENING, SHORT_GRACE, letters
 from undoing import by_keys
 
@@ -400,14 +400,24 @@ def moved(stage):
     stage.agrees_on(OPENING, ["bread", "milk", "six eggs"])
 
 
+def keeps_the_toggle(stage):
+    """Waits until B's browser keeps it. The record of a full text is large, so that takes some seconds on a busy machine. Each look holds up the page's own writes."""
+    end = time.monotonic() + 30 * stage.slack
+    while not stage.b.run(f"(async () => ((await {ALL_KEPT}) || []).some(({{ edits }}) => edits?.includes('\"set\"')))()"):
+        expect_that(time.monotonic() < end, "the browser keeps the toggle")
+        time.sleep(1)
+
+
 def no_room(stage):
     """The text is full by then. What has no room is offered, and the rest is brought in."""
     with closed(stage):
         types_offline(stage, "1234567")
         stage.b.click(TOGGLE)
+        expect(stage.b.run(f"{TOGGLE}.checked"), True, "the toggle")
         focus(stage.a, 0)
         stage.a.type("abcde")
         stage.a.until(f"{STATE} === 'open'")
+        keeps_the_toggle(stage)
     brings_in(stage)
     stage.b.until(f"{OFFERED}.length === 1")
     expect(stage.b.run(OFFERED), ["34567"], "what is offered")

@@ -1,13 +1,13 @@
 -- The run of the core, from its joins to its end.
 use Rattle.std.proofs.Common.{◌≡◌, ℕ, zero, suc, ◌+◌, ◌<◌, ◌≤◌, true, false, List, [], ◌∷◌, ◌++◌, map, length, get_or, Option, Some, None, Ok, Err, refl, sym, ap, ◌∙◌, subst, arith, append-nil, ◌-◌, Bool, cond, inl, inr, append_assoc}
-use Rattle.jup_app.specs.Prelude.{highest_limit, Command, EditFault, board_batches, Windows, BoardBatch, BoardEdits, Commands, content, meaning, batch_laws, StarFault, Joined, Join, Take, Fetch, Leave, Call, OrderEntry, opened_site, BoardSite, turns, edits, own_edits, BoardWorld, BoardAttached, BoardEvent, IsReached, BoardReply, attached, happens, IsOpening, opened_world, run, Happened, HubEvent, Tally, SiteEnd, AllByRecursion, eq-eqb, eqb, dec_le, IsLegal, star_through, calls_by, BeginsWith, AllTallied, IsNew, AllApart}
+use Rattle.jup_app.specs.Prelude.{highest_limit, Command, EditFault, board_batches, Windows, BoardBatch, BoardEdits, Commands, content, meaning, batch_laws, StarFault, Joined, Join, Take, Fetch, Leave, Call, OrderEntry, opened_site, BoardSite, turns, edits, own_edits, BoardWorld, BoardAttached, BoardEvent, IsReached, BoardReply, attached, happens, IsOpening, opened_world, run, Happened, HubEvent, Tally, SiteEnd, AllByRecursion, eq-eqb, eqb, IsLegal, star_through, calls_by, BeginsWith, AllTallied, IsNew, AllApart}
 use Rattle.jup_star.specs.declared.calls.StarReply.TheVariants as reply
 use Rattle.jup_star.specs.declared.messages.Up.TheVariants as up
 use Rattle.jup_star.specs.Stars.{reply_of, star_after, BoardLink, take_fault, after_join, after_take, after_fetch, after_leave}
-use Rattle.jup_world.specs.Traces.{made as made_in_trace, edit_made, joined_at, shown_count, Promises}
+use Rattle.jup_world.specs.Traces.{made as made_in_trace, edit_made, Promises}
 use Rattle.jup_world.specs.Boards.{IsBoardWorld, order_of}
 use Rattle.jup_world.specs.Worlds.{with_outcome, join_outcome, new_site, IsQuiet}
-use Rattle.jup_world.specs.Sound.{IsSound, StandsAt}
+use Rattle.jup_world.specs.Sound.{IsSound}
 use Rattle.jup_world.specs.Events as event
 use Rattle.jup_world.proofs.Worlds.{are_linked, reached_sound}
 use Rattle.jup_world.proofs.Sound.Runs.{sound-promises}
@@ -448,14 +448,12 @@ module _ (board : Windows) (limit n : ℕ) (scripts : List (List Command)) (star
       (subst (λ (t : BoardStar). OrderWithin n t) whole both.0, omega (arith, given, first.1, is.as_many))
 
   -- an attached site is one of the n
-  is_one : (i : ℕ) (l : BoardLink) (a : BoardAttached) → link_of i (assembled_world board limit n is.logs is.later).star.links ≡ Some l → attached i (assembled_world board limit n is.logs is.later).sites ≡ Some a → IsSite n i
-  is_one i l a fl fa =
-      let w : BoardWorld = assembled_world board limit n is.logs is.later in
-      let stands = subst (λ q. StandsAt board_batches most_batches (board_batches.t.content w.opening) (turns i w.star.order) w.star.board (made_in_trace i w.trace) (joined_at board_batches i w.trace) (shown_count i w.trace) i (Some l) q) fa
-      (subst (λ o. StandsAt board_batches most_batches (board_batches.t.content w.opening) (turns i w.star.order) w.star.board (made_in_trace i w.trace) (joined_at board_batches i w.trace) (shown_count i w.trace) i o (attached i w.sites)) fl (sound.stand i)) in
-      let given : w.star.given ≡ star.given = ap (λ (t : BoardStar). t.given) is.star_is in
-      let below : n < i → ⊥ = λ above. (let none : Some l ≡ None = sym fl ∙ sound.star.no_link i (omega (arith, given, numbers.1, above)) in absurd cc) in
-      (stands.pair.positive, elim (dec_le i n) [ yes within ↦ within | no above ↦ absurd (below (omega arith)) ])
+  is_one : (i : ℕ) (a : BoardAttached) → attached i (assembled_world board limit n is.logs is.later).sites ≡ Some a → IsSite n i
+  is_one i a fa =
+      let here = (sound.sites i a fa).beside in
+      let low = here.given in
+      let given : (assembled_world board limit n is.logs is.later).star.given ≡ star.given = ap (λ (t : BoardStar). t.given) is.star_is in
+      (here.stands.pair.positive, omega (arith, low, given, numbers.1))
 
   -- the site at a place
   found : (k : ℕ) → k < n → (d : SiteEnd) × (attached (suc k) (assembled_world board limit n is.logs is.later).sites ≡ Some (link_with (get_or ends k d).site []))
@@ -464,7 +462,7 @@ module _ (board : Windows) (limit n : ℕ) (scripts : List (List Command)) (star
   quiet : IsQuiet board_batches (assembled_world board limit n is.logs is.later)
   quiet i l a fl fa =
       let w : BoardWorld = assembled_world board limit n is.logs is.later in
-      let site = is_one i l a fl fa in
+      let site = is_one i a fa in
       let at : suc (i - 1) ≡ i = omega (arith, site.0) in
       let within : i - 1 < n = omega (arith, site.0, site.1) in
       let f = found (i - 1) within in

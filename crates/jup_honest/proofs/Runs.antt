@@ -10,8 +10,7 @@ use Rattle.jup_site.specs.Sites.{with_fetched}
 use Rattle.jup_site.proofs.Known.{edits_sent-append}
 use Rattle.jup_honest.specs.Sites as sites
 use Rattle.jup_honest.proofs.Steps.{called-opened, called-through, legal-parts}
-use Rattle.jup_site.specs.Moments.{Moment, Moves, Edits, Asks, Hands, Joins, Leaves, Fetches, FetchesOwn, Takes, TakesOwn, Runs, Stays, Then}
-use Rattle.jup_site.proofs.Stars.{IsCalled}
+use Rattle.jup_site.specs.Moments.{Moment, Moves, Edits, Asks, Hands, Joins, Leaves, Fetches, FetchesOwn, Takes, TakesOwn, Runs, Stays, Then, IsCalled, IsBeside}
 use Rattle.jup_site.proofs.Beside as beside_star
 use Rattle.jup_site.specs.Prelude.{Link, owes, end_after, link_of, join_fault, joined, up_fault, most_batches, BoardStar, joining, opened_link, link_fetched, fetched, edit_answer, deliver_fault, sent_back, ups-append}
 
@@ -61,7 +60,7 @@ Rises a us = (l : BoardLink) → link_of a.number a.star.links ≡ Some l → dr
 
 module _ (board : honest.Windows) where
   abbrev pub Beside : sites.Connection → BoardLink → List (honest.Up honest.BoardBatch) → Type 0
-  Beside a l us = beside_star.IsBeside honest.board_batches honest.batch_laws most_batches (honest.content board) a.since a.number (moment a l us)
+  Beside a l us = IsBeside honest.board_batches most_batches (honest.content board) a.since a.number (moment a l us)
 
   -- the site is beside the star
   pub record Stands (a : sites.Connection) : Type 0 where
@@ -83,9 +82,9 @@ module _ (board : honest.Windows) where
   goes-stands a b h number since g = record {
     link = g.link;
     up = g.up;
-    beside = rw (number, since) (subst (beside_star.IsBeside honest.board_batches honest.batch_laws most_batches (honest.content board) a.since a.number) g.is (elim g.move [
+    beside = rw (number, since) (subst (IsBeside honest.board_batches most_batches (honest.content board) a.since a.number) g.is (elim g.move [
       | inl move ↦ beside_star.moves-beside honest.board_batches honest.batch_laws most_batches (honest.content board) a.since a.number (moment a h.link h.up) g.next move h.beside
-      | inr same ↦ subst (beside_star.IsBeside honest.board_batches honest.batch_laws most_batches (honest.content board) a.since a.number) same h.beside
+      | inr same ↦ subst (IsBeside honest.board_batches most_batches (honest.content board) a.since a.number) same h.beside
     ]));
     rises = g.rises;
   }
@@ -337,7 +336,7 @@ join_gives s j is = go (join_fault s) refl is
     go (Some x) e f = absurd cc
 
 -- the star before the join of a run
-pub before-called : (y : sites.SiteRun) → sites.IsHonest y → IsCalled honest.board_batches honest.batch_laws most_batches (honest.content y.board) (honest.star_through (sites.opening y) y.before)
+pub before-called : (y : sites.SiteRun) → sites.IsHonest y → IsCalled honest.board_batches most_batches (honest.content y.board) (honest.star_through (sites.opening y) y.before)
 before-called y is = called-through y.board y.before (sites.opening y) (called-opened y.keeps y.board y.limit is.opens is.limited)
 
 -- as the site joins

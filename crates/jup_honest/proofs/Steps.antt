@@ -5,11 +5,12 @@ use Rattle.jup_window.specs.Laws.Entries.{only_site-held}
 use Rattle.jup_star.specs.Stars.{take_fault, BoardLink, after_join, after_take, after_fetch, after_leave, star_after}
 use Rattle.jup_star.proofs.Stars.{board_small}
 use Rattle.jup_site.proofs.Stars as stars
+use Rattle.jup_site.specs.Moments.{IsCalled}
 use Rattle.jup_site.specs.Prelude.{highest_limit, new_star, link_of, join_fault, up_fault, most_batches, BoardStar}
 
 -- of boards
 abbrev pub CalledStar : Windows → BoardStar → Type 0
-CalledStar board s = stars.IsCalled board_batches batch_laws most_batches (content board) s
+CalledStar board s = IsCalled board_batches most_batches (content board) s
 
 abbrev pub CallGrows : Windows → BoardStar → BoardStar → Type 0
 CallGrows board s t = stars.Grows board_batches batch_laws most_batches (content board) s t

@@ -14,11 +14,11 @@ use Rattle.jup_world.specs.Worlds.{one_taken, place_reply, one_handed, down_repl
 use Rattle.jup_world.specs.Sound.{edit_reply, IsSound, KnowsStrays}
 use Rattle.jup_world.specs.Boards.{BoardAttached, BoardLink, BoardReply}
 use Rattle.jup_world.specs.Happenings.{with_answer, Rises, IsRefused, refilled_from, refilled, fetched_for, refilled_star, handed_first, handed, reply_to, first_reply, FirstFits, FitsFirst, SparesAt, IsQuietAt}
-use Rattle.jup_world.specs.Traces.{AllCount, IsTallied}
+use Rattle.jup_world.specs.Traces.{IsTallied}
 use Rattle.jup_site.proofs.Numbers.{map_kept}
 use Rattle.jup_world.proofs.Answers.{take_taken, take_refused, take_wanted}
 use Rattle.jup_world.proofs.Worlds.{open_held, strays-fetched}
-use Rattle.jup_world.proofs.Sound.Tallies.{counts-fetched, tallied-fetched}
+use Rattle.jup_world.proofs.Sound.Tallies.{tallied-fetched}
 use Rattle.jup_world.proofs.Sound.Runs.{sound-fetched, fall_fits}
 use Rattle.jup_mixed.specs.Mixed.{MixOutcome}
 use Rattle.jup_mixed.specs.Mixed as mix
@@ -255,7 +255,6 @@ module _ (O : stars.Operations) (L : stars.AreLawful O) (most : ℕ) (m : mix.Mi
   pub mix-fetched : (n : ℕ) → mix.IsHomeWorld O most (record { opening = m.opening; star = stars.fetched 1 n m.star; site = Some (with_fetched O n l a); trace = m.trace })
   mix-fetched n = record {
     sound = subst (IsSound O most) fetched_is (sound-fetched O L most (mix.world_of O m) h.sound 1 n l a fl there);
-    counts = subst (AllCount O) fetched_is (counts-fetched O L (mix.world_of O m) h.counts 1 n l a fl there);
     tallied = subst (IsTallied O) fetched_is (tallied-fetched O (mix.world_of O m) h.tallied 1 n l);
     strays = subst (KnowsStrays O) fetched_is (strays-fetched O L most (mix.world_of O m) h.sound h.strays 1 n l);
     given = h.given;

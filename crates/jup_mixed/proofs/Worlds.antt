@@ -16,7 +16,7 @@ use Rattle.jup_site.proofs.Numbers.{either}
 use Rattle.jup_world.proofs.EventSteps.{handed_number}
 use Rattle.jup_world.proofs.Sound.Traces.{stray-end, standing_of}
 use Rattle.jup_world.proofs.Sound.Runs as sound_runs
-use Rattle.jup_world.proofs.Sound.Tallies.{counts-happens, tallied-happens, counts-backlog, tallies}
+use Rattle.jup_world.proofs.Sound.Tallies.{tallied-happens, tallies}
 use Rattle.jup_world.proofs.Worlds.{or_false, strays-happens, opened_sound}
 use Rattle.jup_world.proofs.Orders.{event-follows, run-follows, run_follows}
 use Rattle.jup_world.proofs.Copies.Sites.{HasPastStars, past_stars_run, run_copies, past_stars_opened, past_stars_happens}
@@ -204,7 +204,6 @@ module _ (O : stars.Operations) (L : stars.AreLawful O) where
   pub home-happens : (most : ℕ) (m : mix.MixOf O) → mix.IsHomeWorld O most m → (e : mix.MixEventOf O) → mix.IsHomeWorld O most (mix.mix_happens O m e)
   home-happens most m h e = record {
     sound = subst (IsSound O most) (world_is O most m h e) (sound_runs.sound-happens O L most (mix.world_of O m) (mix.world_event O e) h.sound);
-    counts = subst (traces.AllCount O) (world_is O most m h e) (counts-happens O L most (mix.world_of O m) h.sound h.counts (mix.world_event O e));
     tallied = subst (traces.IsTallied O) (world_is O most m h e) (tallied-happens O (mix.world_of O m) h.tallied (h.sound.no_edit (m.star.given + 1) (omega arith)) (mix.world_event O e));
     strays = subst (KnowsStrays O) (world_is O most m h e) (strays-happens O L most (mix.world_of O m) h.sound h.strays (mix.world_event O e));
     given = (let more = (event-follows O L most (mix.world_of O m) h.sound (mix.world_event O e)).given in
@@ -222,7 +221,6 @@ module _ (O : stars.Operations) (L : stars.AreLawful O) where
   pub home-opened : (most limit : ℕ) (board : O.State) → IsSound O most (worlds.opened_world O board limit) → mix.IsHomeWorld O most (mix.opened_mix O board limit)
   home-opened most limit board opened = record {
     sound = sound_runs.sound-happens O L most (worlds.opened_world O board limit) Join opened;
-    counts = counts-happens O L most (worlds.opened_world O board limit) opened (λ i. tt) Join;
     tallied = tallied-happens O (worlds.opened_world O board limit) (record { given = refl; made = tt }) refl Join;
     strays = strays-happens O L most (worlds.opened_world O board limit) opened (record { links = λ i. tt; new = λ i above. refl }) Join;
     given = omega arith;
@@ -302,7 +300,7 @@ module _ (O : stars.Operations) (L : stars.AreLawful O) (most : ℕ) (m : mix.Mi
   -- at every moment
   pub home-promises : mix.MixPromises O m
   home-promises = record {
-    star_content = h.sound.star.content_is;
+    star_content = h.sound.star.star.content_is;
     site_content = λ a fa. (let k = home_link a fa in (holds k.0 a k.1 fa).content ∙ ap (O.t.meaning (O.t.content m.opening)) view_is);
     in_step = λ l a fl fa. (holds l a fl fa).in_step;
     equal = λ q a fa. (let k = home_link a fa in (holds k.0 a k.1 fa).equal (q k.0 a k.1 fa));
@@ -316,7 +314,7 @@ module _ (O : stars.Operations) (L : stars.AreLawful O) (most : ℕ) (m : mix.Mi
   home-made a fa = (tallies O (mix.world_of O m) h.tallied).made 1 a (there a fa) ∙ ap (λ es. length es) (made_is O m.trace)
 
   pub home-backlog : (a : AttachedOf O) → m.site ≡ Some a → a.site.made ≡ a.site.end.acknowledged + length a.site.end.outgoing
-  home-backlog a fa = (counts-backlog O L most (mix.world_of O m) h.sound h.counts).backlog 1 a (there a fa)
+  home-backlog a fa = (sound_runs.sound-backlog O L most (mix.world_of O m) h.sound).backlog 1 a (there a fa)
 
   -- a reply is that of the world
   reply_is : (e : mix.MixEventOf O) → (worlds.outcome O (mix.world_of O m) (mix.world_event O e)).reply ≡ (mix.mix_outcome O m e).reply
@@ -426,7 +424,7 @@ module _ (O : stars.Operations) (L : stars.AreLawful O) (most : ℕ) (m : mix.Mi
   sent_one : (j : ℕ) (l : stars.LinkState O.Op) → stars.link_of j m.star.links ≡ Some l → (up : stars.Up O.Op)
       → (let o = mix.stray_sends O m j l up (stars.up_fault O m.star l up) in IsAnswered O m.star j l up o.reply o.star)
   sent_one j l fl up = either (stars.up_fault O m.star l up) (λ f. let o = mix.stray_sends O m j l up f in IsAnswered O m.star j l up o.reply o.star)
-      (λ none. inr (accepted O L most (O.t.content m.opening) m.star h.sound.star j l fl up none)) (λ fault is. inl (record { fault = fault; cause = is; reply = refl; star = refl }))
+      (λ none. inr (accepted O L most (O.t.content m.opening) m.star h.sound.star.star j l fl up none)) (λ fault is. inl (record { fault = fault; cause = is; reply = refl; star = refl }))
 
   -- at any number
   pub stray-replies : (j : ℕ) (up : stars.Up O.Op) → mix.StrayReplies O m j up (mix.mix_outcome O m (stars.Stray j up))

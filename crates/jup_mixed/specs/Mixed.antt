@@ -6,7 +6,7 @@ use Rattle.jup_world.specs.declared.events.Reply.{Reply}
 use Rattle.jup_world.specs.declared.events.Reply.TheVariants.{Joined, NoJoin, Left, Made, Refused, Detached, Nothing, Shown}
 use Rattle.jup_world.specs.Events.{Join, Edit as MakeEdit, Up as MoveUp, Down as MoveDown, JoinStray as WorldJoinStray, Stray as WorldStray, LeaveStray as WorldLeaveStray}
 use Rattle.jup_world.specs.Worlds.{AttachedState, AttachedOf, ReplyOf, with_edit, one_taken, place_reply, one_handed, down_reply, IsOpening, WorldOf, EventOf, HappenedOf, Outcome, with_fetched}
-use Rattle.jup_world.specs.Traces.{turns, edits, own_edits, through_others, is_stray, AllCount, IsTallied}
+use Rattle.jup_world.specs.Traces.{turns, edits, own_edits, through_others, is_stray, IsTallied}
 use Rattle.jup_world.specs.Sound.{JoinReplies, edit_reply, UpReplies, DownReplies, IsAnswered, edits_in, IsSound, KnowsStrays}
 use Rattle.jup_world.specs.Boards.{BoardAttached, BoardLink, BoardReply}
 use Rattle.jup_mixed.specs.declared.events.MixEvent.{MixEvent}
@@ -271,7 +271,6 @@ module _ (O : Operations) where
   -- that world is one of those that events make, its site has number 1, and no stranger has
   pub record IsHomeWorld (most : ℕ) (m : MixOf O) : Type 0 where
     pub sound : IsSound O most (world_of m)
-    pub counts : AllCount O (world_of m)
     pub tallied : IsTallied O (world_of m)
     pub strays : KnowsStrays O (world_of m)
     pub given : 1 ≤ m.star.given

@@ -1,16 +1,16 @@
 -- A site stays in step with a star that anyone calls.
-use Rattle.std.proofs.Common.{◌≡◌, ℕ, ◌+◌, ◌≤◌, ◌⊎◌, inl, inr, Bool, true, false, List, [], ◌∷◌, ◌++◌, take, drop, length, nat_eq, refl, ap, sym, ◌∙◌, subst, Option, Some, None, option_map, arith, append_assoc, add-zero, take-append-drop, eqb-true, ne_eqb, eq-eqb}
-use Rattle.jup_site.specs.Prelude.{most_beyond, Operations, AreLawful, Up, UpOp, UpAck, UpPing, Down, DownOp, DownAck, DownPong, downs, LinkState, opened_link, link_of, operation_at, link_sent, link_fetched, link_acked, link_ponged, StarOf, joined, left, taken, up_fault, deliver_fault, opened_site, found-end, found-end_other, found-without, found-without_other}
+use Rattle.std.proofs.Common.{◌≡◌, ℕ, ◌+◌, ◌≤◌, ◌⊎◌, inl, inr, Bool, true, false, List, ◌∷◌, ◌++◌, take, drop, length, nat_eq, refl, ap, sym, ◌∙◌, subst, Option, Some, None, option_map, arith, append_assoc, add-zero, take-append-drop, eqb-true, ne_eqb, eq-eqb}
+use Rattle.jup_site.specs.Prelude.{most_beyond, Operations, AreLawful, Up, UpOp, UpAck, UpPing, Down, DownOp, DownAck, DownPong, downs, LinkState, opened_link, link_of, operation_at, link_sent, link_fetched, link_acked, link_ponged, StarOf, joined, left, taken, up_fault, deliver_fault, found-end, found-end_other, found-without, found-without_other}
 use Rattle.jup_site.specs.Sites.{one_handed}
 use Rattle.jup_site.specs.Turns.{turns, told_count as last_told, Counts, brings}
 use Rattle.jup_site.specs.Sound.{SoundLinkAt, Standing}
 use Rattle.jup_site.proofs.Turns.{length-turns}
-use Rattle.jup_site.proofs.Pairs.Grids.{pair-asked}
+use Rattle.jup_site.proofs.Pairs.Streams.{pair-asked}
 use Rattle.jup_site.proofs.Pairs.Places as places
 use Rattle.jup_site.proofs.Joins.{stands-new}
 use Rattle.jup_site.proofs.Counts as counting
 use Rattle.jup_site.proofs.Stars as stars
-use Rattle.jup_site.specs.Moments.{next_number, newcomer, Moment, Moves, Edits, Asks, Hands, Joins, Leaves, Fetches, FetchesOwn, Takes, TakesOwn, Runs, Stays, Then, link_told}
+use Rattle.jup_site.specs.Moments.{next_number, newcomer, Moment, Moves, Edits, Asks, Hands, Joins, Leaves, Fetches, FetchesOwn, Takes, TakesOwn, Runs, Stays, Then, link_told, IsCalled, IsBeside}
 
 -- an element that is found is this one, before a change of each and after it
 found_same : {A : Type 0} (f : A → A) (x : A) (o : Option A) → ((y : A) → o ≡ Some y → y ≡ x) → (z : A) → option_map f o ≡ Some z → z ≡ f x
@@ -18,15 +18,7 @@ found_same f x None h z e = absurd (cc)
 found_same f x (Some y) h z e = let is : y ≡ x = h y refl in cc
 
 module _ (O : Operations) (L : AreLawful O) (most : ℕ) (first : O.t.Content) (since i : ℕ) where
-  -- The site and the link are at one place of the star's order and count alike, and the star has no other link for the site
-  pub record IsBeside (m : Moment O) : Type 0 where
-    pub star : stars.IsCalled O L most first m.star
-    pub given : i ≤ m.star.given
-    pub stands : Standing O most first (turns i m.star.order) m.star.board m.mine since m.shown i m.link m.at
-    pub counts : Counts O m.link m.at
-    pub is : (l : LinkState O.Op) → link_of i m.star.links ≡ Some l → l ≡ m.link
-
-  module _ (m : Moment O) (h : IsBeside m) where
+  module _ (m : Moment O) (h : IsBeside O most first since i m) where
     -- there is room for what may still come
     pub fits : length m.star.order + most_beyond ≤ most
     fits = let s = h.star.star in omega (arith, s.few, s.limited)
@@ -80,7 +72,7 @@ module _ (O : Operations) (L : AreLawful O) (most : ℕ) (first : O.t.Content) (
     joined_is k fk = h.is k (sym (found-end_other (λ k. k.site) i m.star.links (opened_link (m.star.given + 1)) (ne_eqb (m.star.given + 1) i (λ e. let low = h.given in absurd (omega arith)))) ∙ fk)
 
   -- each move keeps it
-  pub moves-beside : (m n : Moment O) → Moves O i m n → IsBeside m → IsBeside n
+  pub moves-beside : (m n : Moment O) → Moves O i m n → IsBeside O most first since i m → IsBeside O most first since i n
   moves-beside m n (Edits command op ok) h = record {
     star = h.star;
     given = h.given;
@@ -165,7 +157,7 @@ module _ (O : Operations) (L : AreLawful O) (most : ℕ) (first : O.t.Content) (
   }
 
   -- and each run
-  pub runs-beside : (m n : Moment O) → Runs O i m n → IsBeside m → IsBeside n
+  pub runs-beside : (m n : Moment O) → Runs O i m n → IsBeside O most first since i m → IsBeside O most first since i n
   runs-beside m n Stays h = h
   runs-beside m n (Then o move run) h = runs-beside o n run (moves-beside m o move h)
 
@@ -176,11 +168,11 @@ module _ (O : Operations) (L : AreLawful O) (most : ℕ) (first : O.t.Content) (
   Linked m = link_of i m.star.links ≡ Some m.link
 
   -- it has it if it has any for the site
-  pub linked-by : (m : Moment O) → IsBeside m → (l : LinkState O.Op) → link_of i m.star.links ≡ Some l → Linked m
+  pub linked-by : (m : Moment O) → IsBeside O most first since i m → (l : LinkState O.Op) → link_of i m.star.links ≡ Some l → Linked m
   linked-by m h l fl = let is = h.is l fl in cc
 
   -- a link that is gone does not come back
-  pub none-stays : (m n : Moment O) → Moves O i m n → IsBeside m → link_of i m.star.links ≡ None → link_of i n.star.links ≡ None
+  pub none-stays : (m n : Moment O) → Moves O i m n → IsBeside O most first since i m → link_of i m.star.links ≡ None → link_of i n.star.links ≡ None
   none-stays m n Joins h none = found-end_other (λ k. k.site) i m.star.links (opened_link (m.star.given + 1)) (ne_eqb (m.star.given + 1) i (λ e. let low = h.given in absurd (omega arith))) ∙ none
   none-stays m n (Leaves j) h none = cases (nat_eq j i) refl
     where
@@ -195,7 +187,7 @@ module _ (O : Operations) (L : AreLawful O) (most : ℕ) (first : O.t.Content) (
   none-stays m n (TakesOwn up us rising gl ok) h none = absurd (cc)
   none-stays m n move h none = none
 
-  pub linked-before : (m n : Moment O) → Moves O i m n → IsBeside m → (l : LinkState O.Op) → link_of i n.star.links ≡ Some l → Linked m
+  pub linked-before : (m n : Moment O) → Moves O i m n → IsBeside O most first since i m → (l : LinkState O.Op) → link_of i n.star.links ≡ Some l → Linked m
   linked-before m n move h l fl = cases (link_of i m.star.links) refl
     where
       cases : (o : Option (LinkState O.Op)) → link_of i m.star.links ≡ o → Linked m
@@ -218,7 +210,7 @@ module _ (O : Operations) (L : AreLawful O) (most : ℕ) (first : O.t.Content) (
   leave-left m n (Takes j apart l fl up none) is = absurd is
   leave-left m n (TakesOwn up us rising fl none) is = absurd is
 
-  pub moves-remain : (m n : Moment O) (move : Moves O i m n) → IsBeside m → Linked m → IsLeave move ⊎ Linked n
+  pub moves-remain : (m n : Moment O) (move : Moves O i m n) → IsBeside O most first since i m → Linked m → IsLeave move ⊎ Linked n
   moves-remain m n (Edits command op ok) h fl = inr fl
   moves-remain m n (Asks k) h fl = inr fl
   moves-remain m n (Hands d falling e) h fl = inr fl
@@ -239,8 +231,8 @@ module _ (O : Operations) (L : AreLawful O) (most : ℕ) (first : O.t.Content) (
 
 -- A site that joins is beside the star, at the end of its order.
 
-module _ (O : Operations) (L : AreLawful O) (most : ℕ) (first : O.t.Content) (s : StarOf O) (h : stars.IsCalled O L most first s) where
-  pub beside-new : IsBeside O L most first (length s.order) (next_number O s) (newcomer O s)
+module _ (O : Operations) (L : AreLawful O) (most : ℕ) (first : O.t.Content) (s : StarOf O) (h : IsCalled O most first s) where
+  pub beside-new : IsBeside O most first (length s.order) (next_number O s) (newcomer O s)
   beside-new = record {
     star = (stars.called-joined O L most first s h).called;
     given = omega arith;

@@ -2,7 +2,7 @@
 use Rattle.std.proofs.Common.{◌≡◌, ◌⊎◌, inl, inr, ℕ, zero, suc, ◌+◌, ◌≤◌, ◌<◌, Bool, true, false, cond, List, [], ◌∷◌, ◌++◌, length, nat_eq, nat_le, refl, ap, sym, ◌∙◌, subst, Some, None, arith, append-nil, append_assoc, leb-false, length-append, add-zero, leb-true}
 use Rattle.jup_site.specs.Prelude.{Operations, AreLawful, Entry, Up, UpOp, UpAck, UpPing, LinkState, StarOf, link_of, taken, entry, board_batches, BoardBatch, content, most_batches, highest_limit, LogFull, up_fault, new_star}
 use Rattle.jup_site.specs.Sound.{IsSoundStar}
-use Rattle.jup_site.specs.Moments.{Moment, Moves, newcomer}
+use Rattle.jup_site.specs.Moments.{Moment, Moves, newcomer, IsCalled, IsBeside}
 use Rattle.jup_site.specs.Courses.{Becomes, Rests, Admits, Drops, Gives, Accepts, Course, Member, number, since, BoardCourse, BoardMember, IsOpened, StarShows, IsTakenUnlessFull, SiteHolds, HasLink, Remains, KeepsOrder, AreAtOnce, ShowOneOrder}
 use Rattle.jup_site.proofs.Follows.{Follows, follows-same, follows-chain}
 use Rattle.jup_site.proofs.Stars as stars
@@ -22,7 +22,7 @@ plus n k = omega arith
 -- # One star after another
 
 module _ (O : Operations) (L : AreLawful O) (most : ℕ) (first : O.t.Content) where
-  pub becomes-grows : (s t : StarOf O) → Becomes O s t → stars.IsCalled O L most first s → stars.Grows O L most first s t
+  pub becomes-grows : (s t : StarOf O) → Becomes O s t → IsCalled O most first s → stars.Grows O L most first s t
   becomes-grows s t Rests h = stars.called-still O L most first s h
   becomes-grows s t Admits h = stars.called-joined O L most first s h
   becomes-grows s t (Drops j) h = stars.called-left O L most first s h j
@@ -51,10 +51,10 @@ module _ (O : Operations) (L : AreLawful O) (most : ℕ) (first : O.t.Content) w
     pub more : List (Entry O.Edit)
     pub grows : s.order ≡ z.order ++ more
 
-  pub was-self : (s : StarOf O) → stars.IsCalled O L most first s → Was s s
+  pub was-self : (s : StarOf O) → IsCalled O most first s → Was s s
   was-self s h = record { sound = h.star; follows = follows-same O L s s (omega arith) refl refl; more = []; grows = sym (append-nil s.order) }
 
-  was-on : (z s t : StarOf O) → Becomes O s t → stars.IsCalled O L most first s → Was z s → Was z t
+  was-on : (z s t : StarOf O) → Becomes O s t → IsCalled O most first s → Was z s → Was z t
   was-on z s t b h was =
       let adds = becomes-adds s t b in record {
         sound = was.sound;
@@ -65,11 +65,11 @@ module _ (O : Operations) (L : AreLawful O) (most : ℕ) (first : O.t.Content) w
 
 -- # A course
 
-module _ (O : Operations) (L : AreLawful O) (symmetric : (x y : O.State) → O.t.keeps_order x y → O.t.keeps_order y x) (most : ℕ) (c : Course O) (opens : stars.IsCalled O L most (O.t.content c.board) (c.star 0)) where
+module _ (O : Operations) (L : AreLawful O) (symmetric : (x y : O.State) → O.t.keeps_order x y → O.t.keeps_order y x) (most : ℕ) (c : Course O) (opens : IsCalled O most (O.t.content c.board) (c.star 0)) where
   abbrev first : O.t.Content
   first = O.t.content c.board
 
-  pub star-called : (t : ℕ) → stars.IsCalled O L most first (c.star t)
+  pub star-called : (t : ℕ) → IsCalled O most first (c.star t)
   star-called zero = opens
   star-called (suc t) = (becomes-grows O L most first (c.star t) (c.star (suc t)) (c.becomes t) (star-called t)).called
 
@@ -128,11 +128,11 @@ module _ (O : Operations) (L : AreLawful O) (symmetric : (x y : O.State) → O.t
     abbrev at : ℕ
     at = since O s
 
-    pub member-beside : (n : ℕ) → beside_star.IsBeside O L most first at i (s.moment n)
-    member-beside zero = subst (beside_star.IsBeside O L most first at i) (sym s.starts) (beside_star.beside-new O L most first (c.star s.joins) (star-called s.joins))
+    pub member-beside : (n : ℕ) → IsBeside O most first at i (s.moment n)
+    member-beside zero = subst (IsBeside O most first at i) (sym s.starts) (beside_star.beside-new O L most first (c.star s.joins) (star-called s.joins))
     member-beside (suc n) = elim (s.goes n) [
       | inl move ↦ beside_star.moves-beside O L most first at i (s.moment n) (s.moment (suc n)) move (member-beside n)
-      | inr same ↦ subst (beside_star.IsBeside O L most first at i) (sym same) (member-beside n)
+      | inr same ↦ subst (IsBeside O most first at i) (sym same) (member-beside n)
     ]
 
     member-next : (n : ℕ) → Later O L most first at i (s.moment n) (s.moment (suc n))
@@ -198,8 +198,8 @@ module _ (O : Operations) (L : AreLawful O) (symmetric : (x y : O.State) → O.t
 
 module _ (c : BoardCourse) (is : IsOpened c) where
   -- the star as it is opened
-  opened : stars.IsCalled board_batches batch_laws most_batches (content c.board) (c.star 0)
-  opened = subst (stars.IsCalled board_batches batch_laws most_batches (content c.board)) (sym c.opened) (record {
+  opened : IsCalled board_batches most_batches (content c.board) (c.star 0)
+  opened = subst (IsCalled board_batches most_batches (content c.board)) (sym c.opened) (record {
     star = stars.star-opened board_batches batch_laws most_batches c.limit c.board is.opens.distinct (board_small c.board is.opens.short) (let low = is.limited in omega arith) (omega arith)
         (λ n held. only_site-held 0 c.board n is.opens.unsigned held);
     no_entry = λ j above. refl;
@@ -210,7 +210,7 @@ module _ (c : BoardCourse) (is : IsOpened c) where
 
   module _ (s : BoardMember c) where
     -- it is beside the star
-    beside : (n : ℕ) → beside_star.IsBeside board_batches batch_laws most_batches (content c.board) (since board_batches s) (number board_batches s) (s.moment n)
+    beside : (n : ℕ) → IsBeside board_batches most_batches (content c.board) (since board_batches s) (number board_batches s) (s.moment n)
     beside n = member-beside board_batches batch_laws order_symmetric most_batches c opened s n
 
     pub member-holds : (n : ℕ) → SiteHolds c.board (since board_batches s) (number board_batches s) (s.moment n)
@@ -227,7 +227,7 @@ module _ (c : BoardCourse) (is : IsOpened c) where
       link = h.is;
     }
       where
-        h : beside_star.IsBeside board_batches batch_laws most_batches (content c.board) (since board_batches s) (number board_batches s) (s.moment n)
+        h : IsBeside board_batches most_batches (content c.board) (since board_batches s) (number board_batches s) (s.moment n)
         h = beside n
 
         taken : (u : Up BoardBatch) (rising : List (Up BoardBatch)) → (s.moment n).at.up ≡ u ∷ rising → IsTakenUnlessFull (s.moment n).star (s.moment n).link u

@@ -9,9 +9,9 @@ use Rattle.jup_site.proofs.Pairs.Grids.{first_falling}
 use Rattle.jup_site.proofs.Pairs.Edits as pairs
 use Rattle.jup_site.proofs.Pairs.Places.{room}
 use Rattle.jup_site.proofs.Follows.{Follows, follows-same, follows-chain, told_more}
-use Rattle.jup_site.specs.Moments.{Moment, Moves, Edits, Hands, Joins, Leaves, Fetches, FetchesOwn, Takes, TakesOwn, Runs, Stays, Then, told, Knows}
+use Rattle.jup_site.specs.Moments.{Moment, Moves, Edits, Hands, Joins, Leaves, Fetches, FetchesOwn, Takes, TakesOwn, Runs, Stays, Then, told, Knows, IsBeside}
 use Rattle.jup_site.proofs.Stars as stars
-use Rattle.jup_site.proofs.Beside.{IsBeside, fits, moves-beside}
+use Rattle.jup_site.proofs.Beside.{fits, moves-beside}
 
 module _ (O : Operations) (L : AreLawful O) (most : ℕ) (first : O.t.Content) (since i : ℕ) where
   -- the order grows by one entry at the most, and no fewer edits are received or items named
@@ -32,7 +32,7 @@ module _ (O : Operations) (L : AreLawful O) (most : ℕ) (first : O.t.Content) (
   pub later-self : (m : Moment O) → Later m m
   later-self m = record { star = follows-same O L m.star m.star (omega arith) refl refl; order = L.keeps.order_self m.at.site.board; knows = λ x k. k; none_back = λ x k held. held }
 
-  pub later-chain : (m n o : Moment O) → IsBeside O L most first since i m → Later m n → Later n o → Later m o
+  pub later-chain : (m n o : Moment O) → IsBeside O most first since i m → Later m n → Later n o → Later m o
   later-chain m n o h f g = record {
     star = follows-chain O L m.star n.star o.star h.star.star.board_known f.star g.star;
     order = L.keeps.order_chain m.at.site.board n.at.site.board o.at.site.board f.order g.order (λ x here there. g.none_back x (f.knows x (h.stands.pair.board_known x here)) there);
@@ -61,7 +61,7 @@ module _ (O : Operations) (L : AreLawful O) (most : ℕ) (first : O.t.Content) (
   moves-grow m n move = still m n refl (omega arith) (omega arith)
 
   -- what was known stays known
-  knows-on : (m n : Moment O) → IsBeside O L most first since i m → Grows m n → (x : O.t.Name) → Knows O since i m x → Knows O since i n x
+  knows-on : (m n : Moment O) → IsBeside O most first since i m → Grows m n → (x : O.t.Name) → Knows O since i m x → Knows O since i n x
   knows-on m n h g x known = known_more O L _ _ x (own_counts-more O L i m.at.site.named n.at.site.named (λ k. named_by O i k (told O since i m)) (λ k. named_by O i k (told O since i n)) g.named named) known
     where
       named : (k : ℕ) → named_by O i k (told O since i m) ≤ named_by O i k (told O since i n)
@@ -69,7 +69,7 @@ module _ (O : Operations) (L : AreLawful O) (most : ℕ) (first : O.t.Content) (
           (told_more O L i k since m.shown n.shown (turns i m.star.order) (turns i g.more) h.stands.joined_within h.stands.shown_within g.shown)
 
   -- the star
-  pub moves-follow : (m n : Moment O) → IsBeside O L most first since i m → Moves O i m n → Follows O L m.star n.star
+  pub moves-follow : (m n : Moment O) → IsBeside O most first since i m → Moves O i m n → Follows O L m.star n.star
   moves-follow m n h Joins = (stars.called-joined O L most first m.star h.star).follows
   moves-follow m n h (Leaves j) = (stars.called-left O L most first m.star h.star j).follows
   moves-follow m n h (Fetches j k apart) = (stars.called-fetched O L most first m.star h.star j k).follows
@@ -82,7 +82,7 @@ module _ (O : Operations) (L : AreLawful O) (most : ℕ) (first : O.t.Content) (
   abbrev Kept : Moment O → Moment O → Type 0
   Kept m n = O.t.keeps_order m.at.site.board n.at.site.board × ((x : O.t.Name) → Knows O since i m x → O.t.holds n.at.site.board x → O.t.holds m.at.site.board x)
 
-  moves-keep : (m n : Moment O) → IsBeside O L most first since i m → Moves O i m n → Kept m n
+  moves-keep : (m n : Moment O) → IsBeside O most first since i m → Moves O i m n → Kept m n
   moves-keep m n h (Edits command op ok) =
       let few = room O L most first m.star m.mine i since m.shown m.link m.at h.stands (fits O L most first since i m h) in (
         pairs.made_keeps_order O L most i first _ _ m.star.board m.mine m.link m.at h.stands.pair command op ok few h.star.star.counted,
@@ -99,10 +99,10 @@ module _ (O : Operations) (L : AreLawful O) (most : ℕ) (first : O.t.Content) (
   moves-keep m n h (Hands (DownPong k) ds e) = (L.keeps.order_self m.at.site.board, λ x known held. held)
   moves-keep m n h move = (L.keeps.order_self m.at.site.board, λ x known held. held)
 
-  pub moves-later : (m n : Moment O) → IsBeside O L most first since i m → Moves O i m n → Later m n
+  pub moves-later : (m n : Moment O) → IsBeside O most first since i m → Moves O i m n → Later m n
   moves-later m n h move = let kept = moves-keep m n h move in record { star = moves-follow m n h move; order = kept.0; knows = knows-on m n h (moves-grow m n move); none_back = kept.1 }
 
   -- over any run
-  pub runs-later : (m n : Moment O) → Runs O i m n → IsBeside O L most first since i m → Later m n
+  pub runs-later : (m n : Moment O) → Runs O i m n → IsBeside O most first since i m → Later m n
   runs-later m n Stays h = later-self m
   runs-later m n (Then o move run) h = later-chain m o n h (moves-later m o h move) (runs-later o n run (moves-beside O L most first since i m o move h))

@@ -3,3 +3,4 @@
 pub mod Edits
 pub mod Grids
 pub mod Places
+pub mod Streams

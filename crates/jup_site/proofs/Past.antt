@@ -8,12 +8,11 @@ use Rattle.jup_site.specs.Sites.{AttachedOf, with_edit, one_handed}
 use Rattle.jup_site.specs.Sound.{named_by, named_in, IsKnown, own_counts, HoldsKnown, Inherits, told_of, IsSoundStar, Standing}
 use Rattle.jup_site.proofs.Known as known_names
 use Rattle.jup_site.proofs.Turns.{length-turns, turns-append, named-turns}
-use Rattle.jup_site.proofs.Pairs.Grids.{site_with, link_with, pair-streams}
+use Rattle.jup_site.proofs.Pairs.Streams.{site_with, link_with, pair-streams}
 use Rattle.jup_site.proofs.Pairs.Places as places
 use Rattle.jup_site.proofs.Follows.{StarKnows, Follows, follows-same, follows-chain}
-use Rattle.jup_site.specs.Moments.{next_number, newcomer, Moment, Moves, Edits, Hands, FetchesOwn, Takes, TakesOwn, told, told_count, Knows}
-use Rattle.jup_site.proofs.Stars.{IsCalled}
-use Rattle.jup_site.proofs.Beside.{IsBeside, moves-beside}
+use Rattle.jup_site.specs.Moments.{next_number, newcomer, Moment, Moves, Edits, Hands, FetchesOwn, Takes, TakesOwn, Runs, Stays, Then, told, told_count, Knows, IsCalled, IsBeside}
+use Rattle.jup_site.proofs.Beside.{moves-beside}
 use Rattle.jup_site.proofs.Later.{Later, moves-grow, moves-later}
 
 module _ (O : Operations) (L : AreLawful O) where
@@ -216,7 +215,7 @@ module _ (O : Operations) (L : AreLawful O) (symmetric : (x y : O.State) → O.t
     pub told : IsBeingTold O L most first z i since m.shown m.link m.at ⊎ IsTold O L z (Knows O since i m) m.at
 
   -- the star of the moment is one
-  pub was-now : (m : Moment O) → IsBeside O L most first since i m → WasStar m.star m
+  pub was-now : (m : Moment O) → IsBeside O most first since i m → WasStar m.star m
   was-now m h = record {
     sound = h.star.star;
     follows = follows-same O L m.star m.star (omega arith) refl refl;
@@ -254,7 +253,7 @@ module _ (O : Operations) (L : AreLawful O) (symmetric : (x y : O.State) → O.t
   abbrev Told : StarOf O → Moment O → Type 0
   Told z n = IsBeingTold O L most first z i since n.shown n.link n.at ⊎ IsTold O L z (Knows O since i n) n.at
 
-  tells : (z : StarOf O) (m n : Moment O) → WasStar z m → IsBeside O L most first since i m → Moves O i m n → IsBeingTold O L most first z i since m.shown m.link m.at → Told z n
+  tells : (z : StarOf O) (m n : Moment O) → WasStar z m → IsBeside O most first since i m → Moves O i m n → IsBeingTold O L most first z i since m.shown m.link m.at → Told z n
   tells z m n was h (Edits command op ok) t = inl (telling_makes O L symmetric most first z was.sound i since m.shown m.link m.at t command op ok)
   tells z m n was h (Hands d ds e) t = elim (telling_handed O L symmetric most first z was.sound i since m.shown m.link m.at t 0 d ds (ap (λ x. x ++ m.link.outbox) e)) [
     | inl none ↦ inr (told_later z m n was (moves-later O L most first since i m n h (Hands d ds e))
@@ -271,7 +270,7 @@ module _ (O : Operations) (L : AreLawful O) (symmetric : (x y : O.State) → O.t
   tells z m n was h (TakesOwn (UpPing k) us rising fl none) t = inl (telling_more O L symmetric most first z was.sound i since m.shown m.link m.at t n.link n.at _ refl (sym (append_assoc m.at.down m.link.outbox _)))
   tells z m n was h move t = inl (telling_more O L symmetric most first z was.sound i since m.shown m.link m.at t n.link n.at [] refl (sym (append-nil (m.at.down ++ m.link.outbox))))
 
-  pub moves-was : (z : StarOf O) (m n : Moment O) → IsBeside O L most first since i m → Moves O i m n → WasStar z m → WasStar z n
+  pub moves-was : (z : StarOf O) (m n : Moment O) → IsBeside O most first since i m → Moves O i m n → WasStar z m → WasStar z n
   moves-was z m n h move was =
       let later = moves-later O L most first since i m n h move in
       let grown = moves-grow O L most first since i m n move in
@@ -282,6 +281,11 @@ module _ (O : Operations) (L : AreLawful O) (symmetric : (x y : O.State) → O.t
         grows = grown.grows ∙ ap (λ es. es ++ grown.more) was.grows ∙ append_assoc z.order was.more grown.more;
         told = elim was.told [ inl t ↦ tells z m n was h move t | inr t ↦ inr (told_later z m n was later t) ];
       }
+
+  -- and each run
+  pub runs-was : (z : StarOf O) (m n : Moment O) → Runs O i m n → IsBeside O most first since i m → WasStar z m → WasStar z n
+  runs-was z m n Stays h was = was
+  runs-was z m n (Then o move run) h was = runs-was z o n run (moves-beside O L most first since i m o move h) (moves-was z m o h move was)
 
   -- # A past star for each length of the order
 
@@ -294,7 +298,7 @@ module _ (O : Operations) (L : AreLawful O) (symmetric : (x y : O.State) → O.t
   abbrev pub Adds : (stars : ℕ → StarOf O) → StarOf O → StarOf O → Type 0
   Adds stars s t = (k : ℕ) → length s.order < k → k ≤ length t.order → stars k ≡ t
 
-  pub moves-recall : (stars : ℕ → StarOf O) (m n : Moment O) → IsBeside O L most first since i m → Moves O i m n → Adds stars m.star n.star → Recalls stars m → Recalls stars n
+  pub moves-recall : (stars : ℕ → StarOf O) (m n : Moment O) → IsBeside O most first since i m → Moves O i m n → Adds stars m.star n.star → Recalls stars m → Recalls stars n
   moves-recall stars m n h move adds was = record { long = λ k low. (each k low).0; was = λ k low. (each k low).1 }
     where
       each : (k : ℕ) → k ≤ length n.star.order → (length (stars k).order ≡ k) × WasStar (stars k) n
@@ -323,7 +327,7 @@ module _ (O : Operations) (L : AreLawful O) (symmetric : (x y : O.State) → O.t
 
 -- A site that joins knows what each past star knew.
 
-module _ (O : Operations) (L : AreLawful O) (symmetric : (x y : O.State) → O.t.keeps_order x y → O.t.keeps_order y x) (most : ℕ) (first : O.t.Content) (s : StarOf O) (h : IsCalled O L most first s) where
+module _ (O : Operations) (L : AreLawful O) (symmetric : (x y : O.State) → O.t.keeps_order x y → O.t.keeps_order y x) (most : ℕ) (first : O.t.Content) (s : StarOf O) (h : IsCalled O most first s) where
   -- its number
   abbrev i : ℕ
   i = next_number O s
@@ -354,7 +358,7 @@ module _ (O : Operations) (L : AreLawful O) (symmetric : (x y : O.State) → O.t
 -- Two sites beside one star.
 
 module _ (O : Operations) (L : AreLawful O) (symmetric : (x y : O.State) → O.t.keeps_order x y → O.t.keeps_order y x) (most : ℕ) (first : O.t.Content) (since later i j : ℕ) (apart : nat_eq i j ≡ false)
-    (stars : ℕ → StarOf O) (m n : Moment O) (one : n.star ≡ m.star) (a : IsBeside O L most first since i m) (b : IsBeside O L most first later j n)
+    (stars : ℕ → StarOf O) (m n : Moment O) (one : n.star ≡ m.star) (a : IsBeside O most first since i m) (b : IsBeside O most first later j n)
     (ra : Recalls O L symmetric most first since i stars m) (rb : Recalls O L symmetric most first later j stars n) where
   same_length : length n.star.order ≡ length m.star.order
   same_length = ap (λ (s : StarOf O). length s.order) one

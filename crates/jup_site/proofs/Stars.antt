@@ -6,6 +6,7 @@ use Rattle.jup_star.specs.Stars.{early_tests}
 use Rattle.jup_star.proofs.FaultTests.{link_site, inserted_at, taken_valid, AllHold, all_hold}
 use Rattle.jup_site.specs.Sound.{ChangesKnown, named_in, edits_in, IsMoved, IsSoundLink, SoundLinkAt, IsSoundStar, SameMeaning, named_by, IsKnown, ChangesHeld, HoldsKnown}
 use Rattle.jup_site.specs.Turns.{Own, Other, turn, turns, edits, own_edits}
+use Rattle.jup_site.specs.Moments.{IsCalled}
 use Rattle.jup_site.proofs.Numbers.{option_map-self}
 use Rattle.jup_site.proofs.Pairs.Grids as grids
 use Rattle.jup_site.proofs.Turns.{turns-append}
@@ -377,17 +378,12 @@ module _ (O : Operations) (L : AreLawful O) (most : ℕ) (first : O.t.Content) (
 -- A star is sound after any calls, no matter who makes them.
 
 module _ (O : Operations) (L : AreLawful O) (most : ℕ) (first : O.t.Content) where
-  -- a sound star, of whose order no entry is of a number that was not given
-  pub record IsCalled (s : StarOf O) : Type 0 where
-    pub star : IsSoundStar O most first s
-    pub no_entry : (j : ℕ) → s.given < j → own_edits (turns j s.order) ≡ []
-
   -- one star after another, whose order is longer
   pub record Grows (s t : StarOf O) : Type 0 where
-    pub called : IsCalled t
+    pub called : IsCalled O most first t
     pub follows : Follows O L s t
 
-  module _ (s : StarOf O) (h : IsCalled s) where
+  module _ (s : StarOf O) (h : IsCalled O most first s) where
     -- the star's order stays
     called-same : (t : StarOf O) → IsSoundStar O most first t → s.given ≤ t.given → t.board ≡ s.board → t.order ≡ s.order → Grows s t
     called-same t star given board order = record {

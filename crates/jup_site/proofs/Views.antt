@@ -11,8 +11,8 @@ use Rattle.jup_site.proofs.Turns.{named-turns}
 use Rattle.jup_site.proofs.Counts.{no_operations}
 use Rattle.jup_site.proofs.Pairs.Grids.{own_edits-append}
 use Rattle.jup_site.proofs.Pairs.Places.{place-accepted, place-ack_fits}
-use Rattle.jup_site.specs.Moments.{Moment, view}
-use Rattle.jup_site.proofs.Beside.{IsBeside, fits}
+use Rattle.jup_site.specs.Moments.{Moment, view, IsBeside}
+use Rattle.jup_site.proofs.Beside.{fits}
 
 module _ (O : Operations) (L : AreLawful O) (most : ℕ) (first : O.t.Content) (since i shown : ℕ) (s : StarOf O) (mine : List O.Edit) (l : LinkState O.Op) (a : AttachedOf O)
     (st : Standing O most first (turns i s.order) s.board mine since shown i l a) where
@@ -62,7 +62,7 @@ module _ (O : Operations) (L : AreLawful O) (most : ℕ) (first : O.t.Content) (
 
 -- # A moment of a site
 
-module _ (O : Operations) (L : AreLawful O) (most : ℕ) (first : O.t.Content) (since i : ℕ) (m : Moment O) (h : IsBeside O L most first since i m) where
+module _ (O : Operations) (L : AreLawful O) (most : ℕ) (first : O.t.Content) (since i : ℕ) (m : Moment O) (h : IsBeside O most first since i m) where
   -- it shows what its view of the order makes of the opening board
   pub beside-view : O.t.content m.at.site.board ≡ O.t.meaning first (view O since i m)
   beside-view = stands-view O L most first since i m.shown m.star m.mine m.link m.at h.stands

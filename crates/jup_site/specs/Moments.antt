@@ -1,9 +1,9 @@
 -- One site beside a star that anyone calls: what may happen to them, and what holds at every moment.
-use Rattle.std.specs.Prelude.{◌≡◌, ℕ, ◌+◌, List, [], ◌∷◌, ◌++◌, length, nat_eq, false, Some, None, Ok, take, drop}
+use Rattle.std.specs.Prelude.{◌≡◌, ℕ, ◌+◌, ◌≤◌, ◌<◌, List, [], ◌∷◌, ◌++◌, length, nat_eq, false, Some, None, Ok, take, drop}
 use Rattle.jup_site.specs.Prelude.{opened_link, opened_site, Operations, Up, UpOp, UpAck, UpPing, Down, LinkState, StarOf, link_of, joined, left, fetched, taken, up_fault, edit_answer, operation_at, link_sent, link_fetched, link_heard, link_acked, link_ponged}
 use Rattle.jup_site.specs.Sites.{AttachedOf, with_edit, one_taken, one_handed, pinged, with_fetched}
-use Rattle.jup_site.specs.Turns.{Turn, turns, edits, own_edits, brings}
-use Rattle.jup_site.specs.Sound.{told_of, IsKnown, own_counts, named_by}
+use Rattle.jup_site.specs.Turns.{Turn, turns, edits, own_edits, brings, Counts}
+use Rattle.jup_site.specs.Sound.{told_of, IsKnown, own_counts, named_by, IsSoundStar, Standing}
 
 -- # The system
 
@@ -83,3 +83,19 @@ module _ (O : Operations) where
     -- a name that it knows: of the layout, of its own insertions, or of an entry that has reached it
     abbrev pub Knows : O.t.Name → Type 0
     Knows n = IsKnown O (own_counts O i m.at.site.named (λ k. named_by O i k told)) n
+
+-- # What holds at every moment
+
+module _ (O : Operations) (most : ℕ) (first : O.t.Content) where
+  -- a sound star, of whose order no entry is of a number that was not given
+  pub record IsCalled (s : StarOf O) : Type 0 where
+    pub star : IsSoundStar O most first s
+    pub no_entry : (j : ℕ) → s.given < j → own_edits (turns j s.order) ≡ []
+
+  -- The site joined when the order had so many entries. It and the link are at one place of the star's order and count alike, and the star has no other link for the site
+  pub record IsBeside (since i : ℕ) (m : Moment O) : Type 0 where
+    pub star : IsCalled m.star
+    pub given : i ≤ m.star.given
+    pub stands : Standing O most first (turns i m.star.order) m.star.board m.mine since m.shown i m.link m.at
+    pub counts : Counts O m.link m.at
+    pub is : (l : LinkState O.Op) → link_of i m.star.links ≡ Some l → l ≡ m.link

@@ -152,13 +152,6 @@ module _ (O : Operations) where
     pub joined_within : joined ≤ length ts
     pub shown_within : shown ≤ length (others (drop joined ts))
 
-  -- a site has its link; a link without a site is a stranger's
-  abbrev pub StandsAt : ℕ → O.t.Content → List (Turn O.Edit) → O.State → List O.Edit → ℕ → ℕ → ℕ → Option (LinkState O.Op) → Option (AttachedOf O) → Type 0
-  StandsAt most first ts held mine joined shown i None None = Unit {0}
-  StandsAt most first ts held mine joined shown i None (Some a) = ⊥
-  StandsAt most first ts held mine joined shown i (Some l) None = Unit {0}
-  StandsAt most first ts held mine joined shown i (Some l) (Some a) = Standing most first ts held mine joined shown i l a
-
   -- how many insertions of a site are in an order
   abbrev pub named_in : List (Entry O.Edit) → ℕ → ℕ
   named_in order j = named_by 0 j (turns 0 order)

@@ -1,6 +1,6 @@
 -- What each event does.
 use Rattle.std.proofs.Common.{◌≡◌, ℕ, List, [], ◌∷◌, refl, ap, sym, ◌∙◌, subst, Option, Some, None, ◌++◌, drop, Ok}
-use Rattle.jup_world.specs.Prelude.{Operations, Entry, Up, Down, DownOp, DownAck, DownPong, StarFault, LinkState, link_of, join_fault, up_fault, left, taken, place_taken, edit_answer, deliver_fault, EditFault, NoJoin, Left, Refused, Heard, Detached, Asked, Nothing}
+use Rattle.jup_world.specs.Prelude.{Operations, Entry, Up, Down, DownOp, DownAck, DownPong, StarFault, LinkState, link_of, join_fault, up_fault, left, taken, place_taken, edit_answer, deliver_fault, EditFault, NoJoin, Left, Refused, Detached, Nothing}
 use Rattle.jup_world.specs.Events.{Join, Leave, Edit as MakeEdit, Up as MoveUp, Down as MoveDown, Ping as SendPing, JoinStray, Stray, LeaveStray}
 use Rattle.jup_world.specs.Worlds.{WorldOf, EventOf, ReplyOf, HappenedOf, attached, without_site, Outcome, unchanged, join_outcome, edit_outcome, place_reply, up_outcome, first_up, down_outcome, first_down, ping_outcome, stray_joins, stray_sends, at_stray, at_attached, at_linked, at_number, outcome, AttachedOf, one_taken, one_handed}
 use Rattle.jup_world.specs.Traces.{edit_made, entry_taken, join_seen, was_shown}
@@ -26,15 +26,6 @@ module _ (O : Operations) where
   pub nothing_silent : (e : EventOf O) → IsSilent e Nothing
   nothing_silent Join = record { no_edit = λ j. refl; no_join = λ j n k. refl; no_shown = λ j. refl; no_entry = λ p o. refl }
   nothing_silent e = record { no_edit = λ j. refl; no_join = λ j n k. refl; no_shown = λ j. refl; no_entry = λ p o. refl }
-
-  -- each that brings no edit
-  pub heard_silent : (e : EventOf O) → IsSilent e Heard
-  heard_silent Join = record { no_edit = λ j. refl; no_join = λ j n k. refl; no_shown = λ j. refl; no_entry = λ p o. refl }
-  heard_silent e = record { no_edit = λ j. refl; no_join = λ j n k. refl; no_shown = λ j. refl; no_entry = λ p o. refl }
-
-  -- and a ping
-  pub asked_silent : (i k : ℕ) → IsSilent (SendPing i k) Asked
-  asked_silent i k = record { no_edit = λ j. refl; no_join = λ j n k. refl; no_shown = λ j. refl; no_entry = λ p o. refl }
 
   module _ (w : WorldOf O) where
     -- what brought a message to the star: it was the oldest of a site, or a stranger sent it

@@ -3,7 +3,6 @@ use Rattle.std.proofs.Common.{is_some, ◌&&◌, ◌≡◌, ℕ, ◌+◌, ◌≤
 use Rattle.jup_world.specs.Prelude.{highest_limit, Command, EditFault, Operations, AreLawful, has_site, only_site, BoardBatch, Windows, board_batches, batch_laws, BoardEdits, Commands, Up, UpOp, UpAck, UpPing, Down, LinkState, opened_link, link_acked, link_ponged, link_fetched, link_heard, link_sent, operation_at, link_of, most_batches, BoardStar, IsShort, test, first_fault, downs, found-end, found-end_other, Played, Kept, Joined, Nothing}
 use Rattle.jup_window.specs.Entries.{EachWidget}
 use Rattle.jup_window.specs.Laws.Entries.{only_site-held}
-use Rattle.jup_window.specs.Boards as board
 use Rattle.jup_batch.specs.Boards as batch
 use Rattle.jup_star.specs.Stars.{star_open_fault}
 use Rattle.jup_star.proofs.Stars.{board_small, short_bare, distinct_bare}
@@ -19,8 +18,7 @@ use Rattle.jup_world.specs.Lanes.{plain_happened, plain_trace}
 use Rattle.jup_world.specs.Insides.{lane_event, noted_trace}
 use Rattle.jup_world.proofs.EventSteps.{Brings, Rises, Strays, WhyStill, Finds, NotJoined, NoStray, NotMade, WhyGone, Leaves, StrayLeaves, IsDropped, StepOf, Still, Enters, EntersStray, Goes, Makes, Asks, Takes, Hands, handed_number, step_of}
 use Rattle.jup_site.proofs.Numbers as numbers
-use Rattle.jup_world.proofs.Sound.Traces.{stray-end}
-use Rattle.jup_world.proofs.Sound.Steps.{no_site}
+use Rattle.jup_world.proofs.Sound.Traces.{stray-end, no_site}
 use Rattle.jup_world.proofs.Sound.Runs as sound_runs
 use Rattle.jup_world.proofs.Sound.Tallies as tallies
 use Rattle.jup_world.proofs.Happenings.{ascending_without, ascending_at, ascending_end}
@@ -94,24 +92,21 @@ module _ (O : Operations) (L : AreLawful O) where
     entered : (j : ℕ) → LinkedAt O (is_stray j w.trace) (link_of j (w.star.links ++ opened_link (w.star.given + 1) ∷ [])) (attached j (w.sites ++ new_site O w (w.star.given + 1) ∷ []))
     entered = numbers.by_number (λ x. x.site) (λ y. y.site.number) (λ j ol oa. LinkedAt O (is_stray j w.trace) ol oa) (w.star.given + 1)
         (λ j. LinkedAt O (is_stray j w.trace) (link_of j (w.star.links ++ opened_link (w.star.given + 1) ∷ [])) (attached j (w.sites ++ new_site O w (w.star.given + 1) ∷ [])))
-        (subst (λ o. LinkedAt O (is_stray (w.star.given + 1) w.trace) o (attached (w.star.given + 1) (w.sites ++ new_site O w (w.star.given + 1) ∷ [])))
-        (sym (found-end (λ x. x.site) (w.star.given + 1) w.star.links (opened_link (w.star.given + 1)) (s.star.no_link (w.star.given + 1) (omega arith)) (eq-eqb (w.star.given + 1) (w.star.given + 1) refl)))
-        (subst (λ o. LinkedAt O (is_stray (w.star.given + 1) w.trace) (Some (opened_link (w.star.given + 1))) o)
-        (sym (found-end (λ y. y.site.number) (w.star.given + 1) w.sites (new_site O w (w.star.given + 1)) (no_site O L most w s (w.star.given + 1) refl) (eq-eqb (w.star.given + 1) (w.star.given + 1) refl)))
-        (k.new (w.star.given + 1) (omega arith))))
-        (λ j e. subst (λ o. LinkedAt O (is_stray j w.trace) o (attached j (w.sites ++ new_site O w (w.star.given + 1) ∷ []))) (sym (found-end_other (λ x. x.site) j w.star.links (opened_link (w.star.given + 1)) e))
-        (subst (λ o. LinkedAt O (is_stray j w.trace) (link_of j w.star.links) o) (sym (found-end_other (λ y. y.site.number) j w.sites (new_site O w (w.star.given + 1)) e)) (k.links j)))
+        (rw (
+          found-end (λ x. x.site) (w.star.given + 1) w.star.links (opened_link (w.star.given + 1)) (s.star.star.no_link (w.star.given + 1) (omega arith)) (eq-eqb (w.star.given + 1) (w.star.given + 1) refl),
+          found-end (λ y. y.site.number) (w.star.given + 1) w.sites (new_site O w (w.star.given + 1)) (no_site O L most w s (w.star.given + 1) (omega arith)) (eq-eqb (w.star.given + 1) (w.star.given + 1) refl),
+        ) (k.new (w.star.given + 1) (omega arith)))
+        (λ j e. rw (found-end_other (λ x. x.site) j w.star.links (opened_link (w.star.given + 1)) e, found-end_other (λ y. y.site.number) j w.sites (new_site O w (w.star.given + 1)) e) (k.links j))
 
     -- or a stranger
     entered_stray : (j : ℕ) → LinkedAt O (is_stray j w.trace || nat_eq (w.star.given + 1) j) (link_of j (w.star.links ++ opened_link (w.star.given + 1) ∷ [])) (attached j w.sites)
     entered_stray = numbers.by_number (λ x. x.site) (λ y. y.site.number) (λ j ol oa. LinkedAt O (is_stray j w.trace) ol oa) (w.star.given + 1)
         (λ j. LinkedAt O (is_stray j w.trace || nat_eq (w.star.given + 1) j) (link_of j (w.star.links ++ opened_link (w.star.given + 1) ∷ [])) (attached j w.sites))
-        (subst (λ o. LinkedAt O (is_stray (w.star.given + 1) w.trace || nat_eq (w.star.given + 1) (w.star.given + 1)) o (attached (w.star.given + 1) w.sites))
-        (sym (found-end (λ x. x.site) (w.star.given + 1) w.star.links (opened_link (w.star.given + 1)) (s.star.no_link (w.star.given + 1) (omega arith)) (eq-eqb (w.star.given + 1) (w.star.given + 1) refl)))
-        (subst (λ o. LinkedAt O (is_stray (w.star.given + 1) w.trace || nat_eq (w.star.given + 1) (w.star.given + 1)) (Some (opened_link (w.star.given + 1))) o) (sym (no_site O L most w s (w.star.given + 1) refl))
-        (or_true (is_stray (w.star.given + 1) w.trace) (nat_eq (w.star.given + 1) (w.star.given + 1)) (eq-eqb (w.star.given + 1) (w.star.given + 1) refl))))
-        (λ j e. subst (λ o. LinkedAt O (is_stray j w.trace || nat_eq (w.star.given + 1) j) o (attached j w.sites)) (sym (found-end_other (λ x. x.site) j w.star.links (opened_link (w.star.given + 1)) e))
-        (subst (λ b. LinkedAt O b (link_of j w.star.links) (attached j w.sites)) (sym (or_false (is_stray j w.trace) (nat_eq (w.star.given + 1) j) e)) (k.links j)))
+        (rw (
+          found-end (λ x. x.site) (w.star.given + 1) w.star.links (opened_link (w.star.given + 1)) (s.star.star.no_link (w.star.given + 1) (omega arith)) (eq-eqb (w.star.given + 1) (w.star.given + 1) refl),
+          no_site O L most w s (w.star.given + 1) (omega arith),
+        ) (or_true (is_stray (w.star.given + 1) w.trace) (nat_eq (w.star.given + 1) (w.star.given + 1)) (eq-eqb (w.star.given + 1) (w.star.given + 1) refl)))
+        (λ j e. rw (found-end_other (λ x. x.site) j w.star.links (opened_link (w.star.given + 1)) e, or_false (is_stray j w.trace) (nat_eq (w.star.given + 1) j) e) (k.links j))
 
     -- an event, by its outcome
     strays-step : (e : EventOf O) (o : Outcome O) → StepOf O w e o → KnowsStrays O (with_outcome O w e o)
@@ -175,7 +170,6 @@ pub opened_sound : (b : Windows) (limit : ℕ) → IsOpening b → limit ≤ hig
 opened_sound b limit opening low = record {
   sound = sound_runs.sound-opened board_batches batch_laws most_batches limit b opening.distinct (board_small b opening.short) (omega arith) (omega arith)
       (λ n held. only_site-held 0 b n opening.unsigned held);
-  counts = λ i. tt;
   tallied = record { given = refl; made = tt };
   strays = record { links = λ i. tt; new = λ i above. refl };
 }
@@ -184,7 +178,6 @@ opened_sound b limit opening low = record {
 pub happens_sound : (w : BoardWorld) (event : BoardEvent) → IsBoardWorld w → IsBoardWorld (happens board_batches w event)
 happens_sound w event is = record {
   sound = sound_runs.sound-happens board_batches batch_laws most_batches w event is.sound;
-  counts = tallies.counts-happens board_batches batch_laws most_batches w is.sound is.counts event;
   tallied = tallies.tallied-happens board_batches w is.tallied (is.sound.no_edit (w.star.given + 1) (omega arith)) event;
   strays = strays-happens board_batches batch_laws most_batches w is.sound is.strays event;
 }
@@ -199,7 +192,6 @@ pub fetched_sound : (w : BoardWorld) (i n : ℕ) (l : BoardLink) (a : BoardAttac
     → IsBoardWorld w → IsBoardWorld (only_fetched board_batches w i n l)
 fetched_sound w i n l a fl fa is = record {
   sound = sound_runs.sound-fetched board_batches batch_laws most_batches w is.sound i n l a fl fa;
-  counts = tallies.counts-fetched board_batches batch_laws w is.counts i n l a fl fa;
   tallied = tallies.tallied-fetched board_batches w is.tallied i n l;
   strays = strays-fetched board_batches batch_laws most_batches w is.sound is.strays i n l;
 }
@@ -231,7 +223,7 @@ link_given w s i l found = cases (nat_le i w.star.given) refl
   where
     cases : (b : Bool) → nat_le i w.star.given ≡ b → i ≤ w.star.given
     cases true e = leb-true i w.star.given e
-    cases false e = absurd (let none = s.star.no_link i (leb-false i w.star.given e) in cc)
+    cases false e = absurd (let none = s.star.star.no_link i (leb-false i w.star.given e) in cc)
 
 -- numbers may be given beyond those of the sites
 ascending_above : (least most more : ℕ) (xs : List BoardAttached) → most ≤ more → AreAscending least most xs → AreAscending least more xs

@@ -3,7 +3,7 @@ use Rattle.std.specs.Prelude.{ℕ, List, ◌≡◌, ◌≤◌, ◌<◌, length, 
 use Rattle.jup_world.specs.Prelude.{highest_limit, answer_after, BoardEdits, board_batches, BoardBatch, Windows, Entry, LinkState, most_batches}
 use Rattle.jup_batch.specs.Boards.{content, meaning}
 use Rattle.jup_world.specs.Worlds.{HappenedOf, WorldOf, EventOf, ReplyOf, opened_world, run, attached, IsOpening, AttachedOf}
-use Rattle.jup_world.specs.Traces.{order_of as order_told, view as view_told, AllCount, IsTallied, made, turns, edits, own_edits}
+use Rattle.jup_world.specs.Traces.{order_of as order_told, view as view_told, IsTallied, made, turns, edits, own_edits}
 use Rattle.jup_world.specs.Sound.{IsSound, KnowsStrays}
 
 -- What is read off a trace of boards.
@@ -41,7 +41,6 @@ BoardReply = ReplyOf board_batches
 -- what holds of every world of boards
 pub record IsBoardWorld (w : BoardWorld) : Type 0 where
   pub sound : IsSound board_batches most_batches w
-  pub counts : AllCount board_batches w
   pub tallied : IsTallied board_batches w
   pub strays : KnowsStrays board_batches w
 

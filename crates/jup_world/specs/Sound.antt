@@ -3,24 +3,37 @@ use Rattle.std.specs.Prelude.{◌≡◌, List, [], ◌∷◌, ◌++◌, ℕ, ◌
 use Rattle.jup_world.specs.Prelude.{last_site, most_attached, Msg, InStep, Operations, StarFault, LogFull, Full, SitesSpent, Up, UpOp, UpAck, UpPing, Down, DownOp, DownAck, DownPong, LinkState, StarOf, link_of, operation_at, left, up_fault, entry, ups, downs, edit_answer, EditFault, Detached, Joined, NoJoin, Left, Made, Refused, Taken, Heard, Shown, Asked, Nothing}
 use Rattle.jup_world.specs.Traces.{own_edits, turns, order_of, made, joined_at, shown_count, view, is_stray}
 use Rattle.jup_world.specs.Worlds.{WorldOf, attached, EventOf, outcome, ReplyOf, Outcome, unchanged, AttachedOf}
+use Rattle.jup_site.specs.Moments.{Moment, IsCalled, IsBeside}
 use Rattle.jup_world.specs.Events.{Up as MoveUp, JoinStray, Stray, LeaveStray, Join, Leave, Edit as MakeEdit, Down as MoveDown, Ping as SendPing}
-pub use Rattle.jup_site.specs.Sound.{server_past_all, clients_past, client_past_all, servers_past, RowStands, Shows, edits_sent, named_by, IsKnown, own_counts, ChangesKnown, ChangesHeld, HoldsKnown, Inherits, RawNamed, OrderNamed, Paired, told_of, Standing, StandsAt, named_in, edits_in, IsMoved, IsSoundLink, SoundLinkAt, IsSoundStar}
+pub use Rattle.jup_site.specs.Sound.{server_past_all, clients_past, client_past_all, servers_past, RowStands, Shows, edits_sent, named_by, IsKnown, own_counts, ChangesKnown, ChangesHeld, HoldsKnown, Inherits, RawNamed, OrderNamed, Paired, told_of, Standing, named_in, edits_in, IsMoved, IsSoundLink, SoundLinkAt, IsSoundStar}
 unfoldable pub use Rattle.jup_site.specs.Sound.{SameMeaning, StandsFor}
 
 -- What holds of every world.
 
 module _ (O : Operations) where
+  -- the moment of a site, with its link
+  abbrev pub moment_of : WorldOf O → ℕ → LinkState O.Op → AttachedOf O → Moment O
+  moment_of w i l a = record { star = w.star; link = l; mine = made i w.trace; shown = shown_count i w.trace; at = a }
+
+  -- it is beside the star
+  abbrev pub StandsBeside : ℕ → WorldOf O → ℕ → LinkState O.Op → AttachedOf O → Type 0
+  StandsBeside most w i l a = IsBeside O most (O.t.content w.opening) (joined_at O i w.trace) i (moment_of w i l a)
+
+  -- an attached site has its link, and is beside the star
+  pub record IsAttached (most : ℕ) (w : WorldOf O) (i : ℕ) (a : AttachedOf O) : Type 0 where
+    pub link : LinkState O.Op
+    pub linked : link_of i w.star.links ≡ Some link
+    pub beside : StandsBeside most w i link a
+
   -- All that holds of a world at every moment; `most` is how small its opening board is.
   pub record IsSound (most : ℕ) (w : WorldOf O) : Type 0 where
     pub order_is : order_of O w.trace ≡ w.star.order
     pub keeps : w.star.keeps ≡ true
-    pub star : IsSoundStar O most (O.t.content w.opening) w.star
-    pub stand : (i : ℕ) → StandsAt O most (O.t.content w.opening) (turns i w.star.order) w.star.board (made i w.trace) (joined_at O i w.trace) (shown_count i w.trace) i
-        (link_of i w.star.links) (attached i w.sites)
+    pub star : IsCalled O most (O.t.content w.opening) w.star
+    pub sites : (i : ℕ) (a : AttachedOf O) → attached i w.sites ≡ Some a → IsAttached most w i a
     -- numbers that were not given yet
     pub no_edit : (i : ℕ) → w.star.given < i → made i w.trace ≡ []
     pub no_shown : (i : ℕ) → w.star.given < i → shown_count i w.trace ≡ 0
-    pub no_entry : (i : ℕ) → w.star.given < i → own_edits (turns i w.star.order) ≡ []
 
 -- What holds of each site of this product, however many strangers there are beside it and whatever they send. A stranger has no
 -- state: what it sends is part of the event, and its link has no site. So one theorem serves runs with strangers and without.

@@ -1,6 +1,6 @@
 -- What is read off a trace, and what it says of sites.
-use Rattle.std.specs.Prelude.{ℕ, cond, List, [], ◌∷◌, nat_eq, ◌+◌, Bool, true, false, ◌||◌, ◌++◌, length, take, drop, ◌≡◌, ◌⊎◌, Some, ◌<◌, ◌≤◌, Option, None, ◌&&◌, not, is_some}
-use Rattle.jup_world.specs.Prelude.{answer_after, most_unacknowledged, Operations, Entry, Up, UpOp, UpAck, UpPing, entry, LinkState, link_of, EditFault, AllByRecursion, Joined, Made, Taken, Shown, Reply}
+use Rattle.std.specs.Prelude.{ℕ, cond, List, [], ◌∷◌, nat_eq, ◌+◌, Bool, true, false, ◌||◌, ◌++◌, length, take, drop, ◌≡◌, ◌⊎◌, Some, ◌<◌, ◌≤◌, ◌&&◌, not, is_some}
+use Rattle.jup_world.specs.Prelude.{answer_after, most_unacknowledged, Operations, Entry, Up, UpOp, UpAck, UpPing, entry, link_of, EditFault, AllByRecursion, Joined, Made, Taken, Shown, Reply}
 use Rattle.jup_world.specs.Events.{Event, Join, Edit as MakeEdit, Up as MoveUp, Down as MoveDown, JoinStray, Stray, Happened}
 use Rattle.jup_world.specs.Worlds.{EventOf, ReplyOf, HappenedOf, WorldOf, attached, IsQuiet, AttachedOf}
 pub use Rattle.jup_site.specs.Turns.{Turn, Own, Other, turn, turns, edits, own_edits, others, through_others, IsIn, told_count, Counts}
@@ -121,17 +121,6 @@ module _ (O : Operations) where
 -- How many of a site's edits are not known to be received, which is its backlog.
 
 module _ (O : Operations) where
-  -- so under a number
-  abbrev pub CountsAt : Option (LinkState O.Op) → Option (AttachedOf O) → Type 0
-  CountsAt (Some l) (Some a) = Counts O l a
-  CountsAt (Some l) None = Unit {0}
-  CountsAt None (Some a) = Unit {0}
-  CountsAt None None = Unit {0}
-
-  -- and under each
-  abbrev pub AllCount : WorldOf O → Type 0
-  AllCount w = (i : ℕ) → CountsAt (link_of i w.star.links) (attached i w.sites)
-
   -- a site's backlog is the edits that it made less those of which it knows that the star received them. If no message is on its
   -- way, the backlog is below `answer_after`.
   pub record BacklogIsShort (w : WorldOf O) : Type 0 where

@@ -8,6 +8,7 @@ use Rattle.jup_site.specs.Turns.{Turn, Own, Other, edits, own_edits, others, thr
 use Rattle.jup_site.specs.Sound.{SameMeaning, StandsFor, client_past_all, servers_past, RowStands, Shows, edits_sent, named_by, IsKnown, own_counts, ChangesKnown, ChangesHeld, Inherits, RawNamed, OrderNamed, Paired, told_of, Standing, named_in, edits_in}
 use Rattle.jup_site.specs.Sites.{AttachedOf, with_edit, one_taken, one_handed, with_fetched}
 use Rattle.jup_site.proofs.Pairs.Grids as grids
+use Rattle.jup_site.proofs.Pairs.Streams as streams
 use Rattle.jup_site.proofs.Pairs.Edits as pairs
 use Rattle.jup_site.proofs.Known as known_names
 use Rattle.jup_site.proofs.Turns as order_turns
@@ -279,7 +280,7 @@ module _ (O : Operations) (L : AreLawful O) (most : ℕ) (first : O.t.Content) (
       let head = grids.first_rising O L st.pair m (ups us) (ap ups rising) in
       subst (λ ts. Standing O most first ts (O.t.after (operation_at O l.end m) s.board) mine joined n i (link_heard O m l) (one_taken O a)) (sym (order_turns.turns-append i s.order (entry O i m ∷ []) ∙ ap (λ x. turns i s.order ++ x ∷ []) (owned (nat_eq i i) (eq-eqb i i refl))))
       (stand-longer O L most first (turns i s.order) s.board mine joined n i l a st (Own (O.t.edit_of m.op)) (O.t.after (operation_at O l.end m) s.board) (link_heard O m l) (one_taken O a)
-      (grids.pair-link_settles O L most i first past (rest ++ Own (O.t.edit_of m.op) ∷ []) (O.t.after (received_operation O.t l.end m.heard m.op) s.board) mine _ _
+      (streams.pair-link_settles O L most i first past (rest ++ Own (O.t.edit_of m.op) ∷ []) (O.t.after (received_operation O.t l.end m.heard m.op) s.board) mine _ _
       (pair-taken O L most i first past rest s.board mine l a st.pair room m (ups us) (ap ups rising) (drop 1 a.up) (ap (λ r. ups (drop 1 r)) rising) head.0 head.1 head.2)))
     where
       owned : (b : Bool) → b ≡ true → cond b (Own (O.t.edit_of m.op)) (Other i (O.t.edit_of m.op)) ≡ Own (O.t.edit_of m.op)
@@ -304,7 +305,7 @@ module _ (O : Operations) (L : AreLawful O) (most : ℕ) (first : O.t.Content) (
   -- an acknowledgement of its
   pub place-acked : (k : ℕ) (us : List (Up O.Op)) → a.up ≡ UpAck k ∷ us → Standing O most first (turns i s.order) s.board mine joined n i (link_acked k l) (one_taken O a)
   place-acked k us rising = stand-pair O L most first (turns i s.order) s.board mine joined n i l a st s.board mine (link_acked k l) (one_taken O a)
-      (grids.pair-up_acked O L most i first past rest s.board mine l a st.pair k (drop 1 a.up) (headed a.up (UpAck k) us rising))
+      (streams.pair-up_acked O L most i first past rest s.board mine l a st.pair k (drop 1 a.up) (headed a.up (UpAck k) us rising))
     where
       headed : (r : List (Up O.Op)) (u : Up O.Op) (us : List (Up O.Op)) → r ≡ u ∷ us → r ≡ u ∷ drop 1 r
       headed r u us e = e ∙ ap (λ t. u ∷ t) (sym (ap (drop 1) e))
@@ -317,7 +318,7 @@ module _ (O : Operations) (L : AreLawful O) (most : ℕ) (first : O.t.Content) (
   -- a ping of its
   pub place-asked : (k : ℕ) (us : List (Up O.Op)) → a.up ≡ UpPing k ∷ us → Standing O most first (turns i s.order) s.board mine joined n i (link_ponged k l) (one_taken O a)
   place-asked k us rising = stand-pair O L most first (turns i s.order) s.board mine joined n i l a st s.board mine (link_ponged k l) (one_taken O a)
-      (grids.pair-up_asked O L most i first past rest s.board mine l a st.pair k (drop 1 a.up) (headed a.up (UpPing k) us rising))
+      (streams.pair-up_asked O L most i first past rest s.board mine l a st.pair k (drop 1 a.up) (headed a.up (UpPing k) us rising))
     where
       headed : (r : List (Up O.Op)) (u : Up O.Op) (us : List (Up O.Op)) → r ≡ u ∷ us → r ≡ u ∷ drop 1 r
       headed r u us e = e ∙ ap (λ t. u ∷ t) (sym (ap (drop 1) e))
@@ -349,7 +350,7 @@ module _ (O : Operations) (L : AreLawful O) (most : ℕ) (first : O.t.Content) (
       let head = grids.first_falling O L st.pair m (downs (falling ++ drop gone l.outbox)) comes in
       let next = grids.next_other O L i past rest head.0 head.1 st.pair.rest_named (subst (λ d. Inherits O d (others rest)) head.2 st.pair.down_inherits) in
       stand-next O L most first (turns i s.order) s.board mine joined n i l a st (link_fetched gone l) (one_handed O (DownOp m) falling a) (omega (arith, ap length next.others_are))
-      (grids.pair-site_settles O L most i first _ _ s.board mine (pairs.link_left l (drop gone l.outbox)) (pairs.shown_at O a m falling)
+      (streams.pair-site_settles O L most i first _ _ s.board mine (pairs.link_left l (drop gone l.outbox)) (pairs.shown_at O a m falling)
       (pairs.pair-shown O L most i first past rest s.board mine l a st.pair room m (downs (falling ++ drop gone l.outbox)) comes
       falling (drop gone l.outbox) refl head.0 head.1 head.2))
 
@@ -359,14 +360,14 @@ module _ (O : Operations) (L : AreLawful O) (most : ℕ) (first : O.t.Content) (
   place-told k gone falling e =
       subst (λ r. Standing O most first (turns i s.order) s.board mine joined n i (link_fetched gone l) (record { site = with_end a.site (after_count a.site.end k); up = r; down = falling })) (sym (append-nil a.up))
       (stand-pair O L most first (turns i s.order) s.board mine joined n i l a st s.board mine (link_fetched gone l) (record { site = with_end a.site (after_count a.site.end k); up = a.up; down = falling })
-      (grids.pair-down_acked O L most i first past rest s.board mine l a st.pair k falling (drop gone l.outbox) e))
+      (streams.pair-down_acked O L most i first past rest s.board mine l a st.pair k falling (drop gone l.outbox) e))
 
   -- a pong
   pub place-answered : (k gone : ℕ) (falling : List (Down O.Op)) → downs (a.down ++ l.outbox) ≡ downs (DownPong k ∷ (falling ++ drop gone l.outbox))
       → Standing O most first (turns i s.order) s.board mine joined n i (link_fetched gone l) (one_handed O (DownPong k) falling a)
   place-answered k gone falling e =
       stand-pair O L most first (turns i s.order) s.board mine joined n i l a st s.board mine (link_fetched gone l) (one_handed O (DownPong k) falling a)
-      (grids.pair-streams O L most i first past rest s.board mine l a st.pair (a.up ++ []) falling (drop gone l.outbox) (ap ups (append-nil a.up)) (sym e))
+      (streams.pair-streams O L most i first past rest s.board mine l a st.pair (a.up ++ []) falling (drop gone l.outbox) (ap ups (append-nil a.up)) (sym e))
 
   -- the oldest message on its way down is one that it takes
   pub place-fits : (d : Down O.Op) (gone : ℕ) (falling : List (Down O.Op)) → downs (a.down ++ l.outbox) ≡ downs (d ∷ (falling ++ drop gone l.outbox)) → deliver_fault O d a.site ≡ None
@@ -386,4 +387,4 @@ module _ (O : Operations) (L : AreLawful O) (most : ℕ) (first : O.t.Content) (
   pub place-fetched : (k : ℕ) → Standing O most first (turns i s.order) s.board mine joined n i (link_fetched k l) (with_fetched O k l a)
   place-fetched k =
       stand-pair O L most first (turns i s.order) s.board mine joined n i l a st s.board mine (link_fetched k l) (with_fetched O k l a)
-      (grids.pair-streams O L most i first _ _ s.board mine l a st.pair a.up (a.down ++ take k l.outbox) (drop k l.outbox) refl (same_way k a.down l.outbox))
+      (streams.pair-streams O L most i first _ _ s.board mine l a st.pair a.up (a.down ++ take k l.outbox) (drop k l.outbox) refl (same_way k a.down l.outbox))

@@ -5,7 +5,6 @@ use Rattle.jup_world.specs.Traces.{made, joined_at, shown_count}
 use Rattle.jup_world.specs.Worlds.{AttachedOf, one_taken, with_edit, one_handed, pinged, with_fetched, attached, at_site, WorldOf, EventOf, Outcome, new_site, outcome, only_fetched, happens}
 use Rattle.jup_world.specs.Sound.{IsSound}
 use Rattle.jup_world.proofs.Sound.Traces.{standing_of}
-use Rattle.jup_site.proofs.Pairs.Places.{past}
 use Rattle.jup_site.proofs.Follows.{Follows}
 use Rattle.jup_world.proofs.Orders.{given_before, event-follows}
 use Rattle.jup_world.proofs.EventSteps as steps
@@ -30,7 +29,7 @@ module _ (O : Operations) (L : AreLawful O) where
     -- the star's board and order stay
     same_star : (v : StarOf O) (ol : Option (LinkState O.Op)) (oa : Option (AttachedOf O)) → v.board ≡ w.star.board → v.order ≡ w.star.order → taking.GoesOn O L h.link h.site ol oa
         → taking.IsPastBoard O L most (O.t.content w.opening) v i x ol oa
-    same_star v ol oa b o g = inl (taking.taking_same O L symmetric most (O.t.content w.opening) w.star s.star i x _ _ h v ol oa b o g)
+    same_star v ol oa b o g = inl (taking.taking_same O L symmetric most (O.t.content w.opening) w.star s.star.star i x _ _ h v ol oa b o g)
 
     -- and nothing changes under a number
     stays : (v : StarOf O) → v.board ≡ w.star.board → v.order ≡ w.star.order → (j : ℕ) → Here v j (link_of j w.star.links) (attached j w.sites)
@@ -50,7 +49,7 @@ module _ (O : Operations) (L : AreLawful O) where
     sends_more j f g kf kg l a fl fa ends more grown =
         at_one (λ k. k.site) (λ b. b.site.number) (Here (with_links w.star (at_link j f w.star.links))) j f g kf kg w.star.links w.sites l (Some a) fl fa
         (λ is. same_star (with_links w.star (at_link j f w.star.links)) _ _ refl refl
-        (grows (taking.goes_here O L symmetric most (O.t.content w.opening) w.star s.star i x _ _ h l a (link_is j l fl is) (site_is j a fa is))))
+        (grows (taking.goes_here O L symmetric most (O.t.content w.opening) w.star s.star.star i x _ _ h l a (link_is j l fl is) (site_is j a fa is))))
         (λ n apart. stays (with_links w.star (at_link j f w.star.links)) refl refl n) i refl
       where
         grows : (h.link.end ≡ l.end) × (later : List (Up O.Op)) × (a.up ≡ h.site.up ++ later) → taking.GoesOn O L h.link h.site (Some (f l)) (Some (g a))
@@ -91,7 +90,7 @@ module _ (O : Operations) (L : AreLawful O) where
         at_one (λ k. k.site) (λ b. b.site.number) (Here (with_links w.star (at_link j f w.star.links))) j f (one_taken O) kf (λ b. refl) w.star.links w.sites l oa fl fa
         (λ is. elim (own is) [
           | inl t ↦ inr (record { order = t.order; known = t.known })
-          | inr n ↦ inl (taking.taking_same O L symmetric most (O.t.content w.opening) w.star s.star i x _ _ n (with_links w.star (at_link j f w.star.links)) _ _ refl refl n.goes)
+          | inr n ↦ inl (taking.taking_same O L symmetric most (O.t.content w.opening) w.star s.star.star i x _ _ n (with_links w.star (at_link j f w.star.links)) _ _ refl refl n.goes)
         ])
         (λ n apart. stays (with_links w.star (at_link j f w.star.links)) refl refl n) i refl
 
@@ -107,7 +106,7 @@ module _ (O : Operations) (L : AreLawful O) where
         ])
         (λ n apart is.
         inl (subst (λ k. taking.IsBeingTaken O L most (O.t.content w.opening) (taken O j (UpOp m) l w.star) i x (option_map (link_sent (operation_at O l.end m)) (link_of k w.star.links)) (attached k w.sites)) (sym is)
-        (taking.taking_other O L symmetric most (O.t.content w.opening) w.star s.star i x _ _ h j l fl m none (subst (λ k. nat_eq j k ≡ false) is apart)))) i refl
+        (taking.taking_other O L symmetric most (O.t.content w.opening) w.star s.star.star i x _ _ h j l fl m none (subst (λ k. nat_eq j k ≡ false) is apart)))) i refl
 
     -- an event, by its outcome
     taking_step : (e : EventOf O) (o : Outcome O) → Follows O L w.star o.star → steps.StepOf O w e o → PastBoardAt most (O.t.content w.opening) i x o.star o.sites
@@ -121,11 +120,11 @@ module _ (O : Operations) (L : AreLawful O) where
     taking_step e o follows (steps.Makes j command l a op fl fa ok) = site_sends j (with_edit O op) (λ b. refl) l a fl fa _ refl
     taking_step e o follows (steps.Asks j k l a fl fa) = site_sends j (pinged O k) (λ b. refl) l a fl fa _ refl
     taking_step e o follows (steps.Takes j l oa (UpOp m) fl fa (steps.Rises a us rising) none) = takes_edit j l (Some a) fl fa m none
-        (λ is. taking.taking_own O L symmetric most (O.t.content w.opening) w.star s.star i x _ _ h l a (link_is j l fl is) (site_is j a fa is) m us rising) follows
+        (λ is. taking.taking_own O L symmetric most (O.t.content w.opening) w.star s.star.star i x _ _ h l a (link_is j l fl is) (site_is j a fa is) m us rising) follows
     taking_step e o follows (steps.Takes j l oa (UpAck n) fl fa (steps.Rises a us rising) none) = takes_count j (link_acked n) (λ k. refl) l (Some a) fl fa
-        (λ is. taking.taking_ack O L symmetric most (O.t.content w.opening) w.star s.star i x _ _ h l a (link_is j l fl is) (site_is j a fa is) n us rising)
+        (λ is. taking.taking_ack O L symmetric most (O.t.content w.opening) w.star s.star.star i x _ _ h l a (link_is j l fl is) (site_is j a fa is) n us rising)
     taking_step e o follows (steps.Takes j l oa (UpPing k) fl fa (steps.Rises a us rising) none) = takes_count j (link_ponged k) (λ z. refl) l (Some a) fl fa
-        (λ is. taking.taking_ping O L symmetric most (O.t.content w.opening) w.star s.star i x _ _ h l a (link_is j l fl is) (site_is j a fa is) k us rising)
+        (λ is. taking.taking_ping O L symmetric most (O.t.content w.opening) w.star s.star.star i x _ _ h l a (link_is j l fl is) (site_is j a fa is) k us rising)
     taking_step e o follows (steps.Takes j l oa (UpOp m) fl fa steps.Strays none) = takes_edit j l None fl fa m none (λ is. absurd (not_alone j l fl fa is)) follows
     taking_step e o follows (steps.Takes j l oa (UpAck n) fl fa steps.Strays none) = takes_count j (link_acked n) (λ k. refl) l None fl fa (λ is. absurd (not_alone j l fl fa is))
     taking_step e o follows (steps.Takes j l oa (UpPing k) fl fa steps.Strays none) = takes_count j (link_ponged k) (λ z. refl) l None fl fa (λ is. absurd (not_alone j l fl fa is))
@@ -185,6 +184,6 @@ module _ (O : Operations) (L : AreLawful O) where
     -- so what it showed and what the star shows are in one order
     pub was_order : (most : ℕ) (w : WorldOf O) (s : IsSound O most w) (i : ℕ) (x : O.State) → WasShown most w i x → O.t.keeps_order x w.star.board
     was_order most w s i x was = elim was.past [
-      | inl h ↦ taking.taking_order O L symmetric most (O.t.content w.opening) w.star s.star i x _ _ h
+      | inl h ↦ taking.taking_order O L symmetric most (O.t.content w.opening) w.star s.star.star i x _ _ h
       | inr t ↦ t.order
     ]

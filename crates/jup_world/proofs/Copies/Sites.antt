@@ -68,10 +68,10 @@ module _ (O : Operations) (L : AreLawful O) where
 
     -- for each length that the order has had, a star that the world had then
     abbrev pub HasPastStars : ℕ → WorldOf O → Type 0
-    HasPastStars most w = (k : ℕ) → k ≤ length w.star.order → (z : StarOf O) × (length z.order ≡ k) × past_stars.WasStar O L most w z
+    HasPastStars most w = (k : ℕ) → k ≤ length w.star.order → (z : StarOf O) × (length z.order ≡ k) × past_stars.WasStar O L symmetric most w z
 
     pub past_stars_opened : (most limit : ℕ) (board : O.State) → IsSound O most (opened_world O board limit) → HasPastStars most (opened_world O board limit)
-    past_stars_opened most limit board s k h = ((opened_world O board limit).star, omega arith, past_stars.was_now O L most (opened_world O board limit) s)
+    past_stars_opened most limit board s k h = ((opened_world O board limit).star, omega arith, past_stars.was_now O L symmetric most (opened_world O board limit) s)
 
     -- each event keeps this, since the order grows by one entry at the most
     longer_by_one : (most : ℕ) (w : WorldOf O) (s : IsSound O most w) (e : EventOf O) → length (happens O w e).star.order ≤ length w.star.order + 1
@@ -82,21 +82,21 @@ module _ (O : Operations) (L : AreLawful O) where
     pub past_stars_happens : (most : ℕ) (w : WorldOf O) (s : IsSound O most w) (e : EventOf O) → HasPastStars most w → HasPastStars most (happens O w e)
     past_stars_happens most w s e past k h = cases (nat_le k (length w.star.order)) refl
       where
-        cases : (b : Bool) → nat_le k (length w.star.order) ≡ b → (z : StarOf O) × (length z.order ≡ k) × past_stars.WasStar O L most (happens O w e) z
-        cases true f = let was = past k (leb-true k (length w.star.order) f) in (was.0, was.1, past_stars.was_star_happens O L symmetric most w s e was.0 was.2)
+        cases : (b : Bool) → nat_le k (length w.star.order) ≡ b → (z : StarOf O) × (length z.order ≡ k) × past_stars.WasStar O L symmetric most (happens O w e) z
+        cases true f = let was = past k (leb-true k (length w.star.order) f) in (was.0, was.1, past_stars.was_star_happens O L symmetric most w s was.0 was.2 e)
         cases false f =
             let above = leb-false k (length w.star.order) f in
             let one = longer_by_one most w s e in
-            ((happens O w e).star, omega arith, past_stars.was_now O L most (happens O w e) (sound-happens O L most w e s))
+            ((happens O w e).star, omega arith, past_stars.was_now O L symmetric most (happens O w e) (sound-happens O L most w e s))
 
     pub past_stars_run : (es : List (EventOf O)) (most : ℕ) (w : WorldOf O) → IsSound O most w → HasPastStars most w → HasPastStars most (run O w es)
     past_stars_run [] most w s past = past
     past_stars_run (e ∷ es) most w s past = past_stars_run es most (happens O w e) (sound-happens O L most w e s) (past_stars_happens most w s e past)
 
     -- and so does a fetch
-    pub past_stars_fetched : (most : ℕ) (w : WorldOf O) (i n : ℕ) (l : LinkState O.Op) (a : AttachedOf O) → link_of i w.star.links ≡ Some l → attached i w.sites ≡ Some a
+    pub past_stars_fetched : (most : ℕ) (w : WorldOf O) → IsSound O most w → (i n : ℕ) (l : LinkState O.Op) (a : AttachedOf O) → link_of i w.star.links ≡ Some l → attached i w.sites ≡ Some a
         → HasPastStars most w → HasPastStars most (only_fetched O w i n l)
-    past_stars_fetched most w i n l a fl fa past k h = let was = past k h in (was.0, was.1, past_stars.was_star_fetched O L symmetric most w i n l a fl fa was.0 was.2)
+    past_stars_fetched most w s i n l a fl fa past k h = let was = past k h in (was.0, was.1, past_stars.was_star_fetched O L symmetric most w s was.0 was.2 i n l a fl fa)
 
     -- # A past board of a site
 
@@ -112,7 +112,7 @@ module _ (O : Operations) (L : AreLawful O) where
       pub later : List (Entry O.Edit)
       pub grows : w.star.order ≡ seen ++ later
       pub known : (n : O.t.Name) → O.t.holds x n → IsKnown O (own_counts O i named (named_in O seen)) n
-      pub stars : (k : ℕ) → k ≤ length w.star.order → (z : StarOf O) × (length z.order ≡ k) × past_stars.WasStar O L most w z × Beside x (length seen) z
+      pub stars : (k : ℕ) → k ≤ length w.star.order → (z : StarOf O) × (length z.order ≡ k) × past_stars.WasStar O L symmetric most w z × Beside x (length seen) z
 
     -- the site of the moment
     pub copy_now : (most : ℕ) (w : WorldOf O) (s : IsSound O most w) → HasPastStars most w → (i : ℕ) (a : AttachedOf O) → attached i w.sites ≡ Some a
@@ -129,8 +129,8 @@ module _ (O : Operations) (L : AreLawful O) where
         was.1,
         was.2,
         record {
-          order = symmetric was.0.board a.site.board (past_stars.past_order O L symmetric most w s was.0 was.2 i st.0 a st.2 fa);
-          level = λ e n known held. (past_stars.past_since O L symmetric most w s was.0 was.2 i st.0 a st.2 fa (omega (arith, e, count))).none_back n known held;
+          order = symmetric was.0.board a.site.board (past_stars.past_order O L symmetric most w was.0 was.2 i st.0 a st.2 fa);
+          level = λ e n known held. (past_stars.past_since O L symmetric most w was.0 was.2 i st.0 a st.2 fa (omega (arith, e, count))).none_back n known held;
         },
       ));
     }
@@ -157,14 +157,14 @@ module _ (O : Operations) (L : AreLawful O) where
         shown_on = past_boards.was_happens O L symmetric most w s i x e was.shown
 
         cases : (k : ℕ) → k ≤ length (happens O w e).star.order → (b : Bool) → nat_le k (length w.star.order) ≡ b
-            → (z : StarOf O) × (length z.order ≡ k) × past_stars.WasStar O L most (happens O w e) z × Beside x (length seen) z
-        cases k h true f = let z = was.stars k (leb-true k (length w.star.order) f) in (z.0, z.1, past_stars.was_star_happens O L symmetric most w s e z.0 z.2, z.3)
+            → (z : StarOf O) × (length z.order ≡ k) × past_stars.WasStar O L symmetric most (happens O w e) z × Beside x (length seen) z
+        cases k h true f = let z = was.stars k (leb-true k (length w.star.order) f) in (z.0, z.1, past_stars.was_star_happens O L symmetric most w s z.0 z.2 e, z.3)
         cases k h false f =
             let above = leb-false k (length w.star.order) f in
             let one = longer_by_one most w s e in (
               (happens O w e).star,
               omega arith,
-              past_stars.was_now O L most (happens O w e) (sound-happens O L most w e s),
+              past_stars.was_now O L symmetric most (happens O w e) (sound-happens O L most w e s),
               record {
                 order = past_boards.was_order O L symmetric most (happens O w e) (sound-happens O L most w e s) i x shown_on;
                 level = λ q n known held. absurd (omega (arith, q, ap (λ (os : List (Entry O.Edit)). length os) was.grows, length-append seen was.later));
@@ -179,7 +179,7 @@ module _ (O : Operations) (L : AreLawful O) where
       later = was.later;
       grows = was.grows;
       known = was.known;
-      stars = λ k h. (let z = was.stars k h in (z.0, z.1, past_stars.was_star_fetched O L symmetric most w j n l a fl fa z.0 z.2, z.3));
+      stars = λ k h. (let z = was.stars k h in (z.0, z.1, past_stars.was_star_fetched O L symmetric most w s z.0 z.2 j n l a fl fa, z.3));
     }
 
     pub copy_run : (es : List (EventOf O)) (most : ℕ) (w : WorldOf O) → IsSound O most w → (i : ℕ) (x : O.State) (named : ℕ) (seen : List (Entry O.Edit)) → WasCopy most w i x named seen → WasCopy most (run O w es) i x named seen
@@ -224,12 +224,12 @@ module _ (O : Operations) (L : AreLawful O) where
         through : (k : ℕ) → k ≤ length w.star.order → length seen ≤ k → told_count w j ≤ k → (k ≡ length seen) ⊎ (k ≡ told_count w j) → O.t.keeps_order x b.site.board
         through k h low high which =
             let z = was.stars k h in
-            L.keeps.order_chain x z.0.board b.site.board z.3.order (past_stars.past_order O L symmetric most w s z.0 z.2 j st.0 b st.2 fb)
+            L.keeps.order_chain x z.0.board b.site.board z.3.order (past_stars.past_order O L symmetric most w z.0 z.2 j st.0 b st.2 fb)
             (λ n here there.
             let known = knows_both w i j apart named seen was.later was.grows b z.0 z.2.more z.2.grows (omega (arith, z.1)) (omega (arith, z.1)) n (was.known n here) (st.1.pair.board_known n there) in
             elim which [
               | inl a ↦ z.3.level (z.1 ∙ a) n known here
-              | inr c ↦ (past_stars.past_since O L symmetric most w s z.0 z.2 j st.0 b st.2 fb (sym (z.1 ∙ c))).none_back n known there
+              | inr c ↦ (past_stars.past_since O L symmetric most w z.0 z.2 j st.0 b st.2 fb (sym (z.1 ∙ c))).none_back n known there
             ])
 
         cases : (c : Bool) → nat_le (length seen) (told_count w j) ≡ c → O.t.keeps_order x b.site.board
@@ -266,11 +266,11 @@ module _ (symmetric : (x y : Windows) → board_batches.t.keeps_order x y → bo
   later_lanes = lane_worlds.tried_keeps events u v is steps
 
   -- the star of the first moment is a past star at the later_lanes one
-  was_star : past_stars.WasStar board_batches batch_laws most_batches (messages_of v) u.star
-  was_star = lane_keeps (λ w. past_stars.WasStar board_batches batch_laws most_batches w u.star)
-      (λ w is e was. past_stars.was_star_happens board_batches batch_laws symmetric most_batches w is.board.sound e u.star was)
-      (λ w is i l a fl fa was. past_stars.was_star_fetched board_batches batch_laws symmetric most_batches w i 1 l a fl fa u.star was)
-      events u v is steps (past_stars.was_now board_batches batch_laws most_batches (messages_of u) is.world.board.sound)
+  was_star : past_stars.WasStar board_batches batch_laws symmetric most_batches (messages_of v) u.star
+  was_star = lane_keeps (λ w. past_stars.WasStar board_batches batch_laws symmetric most_batches w u.star)
+      (λ w is e was. past_stars.was_star_happens board_batches batch_laws symmetric most_batches w is.board.sound u.star was e)
+      (λ w is i l a fl fa was. past_stars.was_star_fetched board_batches batch_laws symmetric most_batches w is.board.sound u.star was i 1 l a fl fa)
+      events u v is steps (past_stars.was_now board_batches batch_laws symmetric most_batches (messages_of u) is.world.board.sound)
 
   -- what had reached a site by the first moment
   abbrev seen : ℕ → List (Entry BoardEdits)
@@ -291,7 +291,7 @@ module _ (symmetric : (x y : Windows) → board_batches.t.keeps_order x y → bo
       star_site : (j : ℕ) (b : BoardAttached) → attached j (messages_of v).sites ≡ Some b → board_batches.t.keeps_order u.star.board b.site.board
       star_site j b fb =
           let st = standing_of board_batches batch_laws most_batches (messages_of v) later_lanes.world.board.sound j b fb in
-          past_stars.past_order board_batches batch_laws symmetric most_batches (messages_of v) later_lanes.world.board.sound u.star was_star j st.0 b st.2 fb
+          past_stars.past_order board_batches batch_laws symmetric most_batches (messages_of v) u.star was_star j st.0 b st.2 fb
   tried_copies x y (inr d) (inl q) = subst (λ z. board_batches.t.keeps_order z y) (sym d.3) (subst (board_batches.t.keeps_order d.1.site.board) (sym q)
       (past_boards.was_order board_batches batch_laws symmetric most_batches (messages_of v) later_lanes.world.board.sound d.0 d.1.site.board (was_copy d.0 d.1 d.2).shown))
   tried_copies x y (inr d) (inr c) = subst (λ z. board_batches.t.keeps_order z y) (sym d.3) (subst (board_batches.t.keeps_order d.1.site.board) (sym c.3) (site_site d.0 c.0 d.1 c.1 d.2 c.2))
@@ -308,16 +308,16 @@ pub lane_past_stars : (symmetric : (x y : Windows) → board_batches.t.keeps_ord
     → HasPastStars board_batches batch_laws symmetric most_batches (messages_of u) → HasPastStars board_batches batch_laws symmetric most_batches (messages_of v)
 lane_past_stars symmetric events u v is steps past = lane_keeps (HasPastStars board_batches batch_laws symmetric most_batches)
     (λ w is e past. past_stars_happens board_batches batch_laws symmetric most_batches w is.board.sound e past)
-    (λ w is i l a fl fa past. past_stars_fetched board_batches batch_laws symmetric most_batches w i 1 l a fl fa past)
+    (λ w is i l a fl fa past. past_stars_fetched board_batches batch_laws symmetric most_batches w is.board.sound i 1 l a fl fa past)
     events u v is steps past
 
 -- Any two copies of the board, at one moment or at two, show in one order what both show: stars or sites, four cases.
 
 module _ (O : Operations) (L : AreLawful O) (symmetric : (x y : O.State) → O.t.keeps_order x y → O.t.keeps_order y x) where
   -- over any run a past star stays one
-  was_star_run : (es : List (EventOf O)) (most : ℕ) (w : WorldOf O) → IsSound O most w → (z : StarOf O) → past_stars.WasStar O L most w z → past_stars.WasStar O L most (run O w es) z
+  was_star_run : (es : List (EventOf O)) (most : ℕ) (w : WorldOf O) → IsSound O most w → (z : StarOf O) → past_stars.WasStar O L symmetric most w z → past_stars.WasStar O L symmetric most (run O w es) z
   was_star_run [] most w s z was = was
-  was_star_run (e ∷ es) most w s z was = was_star_run es most (happens O w e) (sound-happens O L most w e s) z (past_stars.was_star_happens O L symmetric most w s e z was)
+  was_star_run (e ∷ es) most w s z was = was_star_run es most (happens O w e) (sound-happens O L most w e s) z (past_stars.was_star_happens O L symmetric most w s z was e)
 
   module _ (most : ℕ) (w : WorldOf O) (s : IsSound O most w) (past : HasPastStars O L symmetric most w) (es : List (EventOf O)) where
     later : IsSound O most (run O w es)
@@ -327,7 +327,7 @@ module _ (O : Operations) (L : AreLawful O) (symmetric : (x y : O.State) → O.t
     star_site : (j : ℕ) (b : AttachedOf O) → attached j (run O w es).sites ≡ Some b → O.t.keeps_order w.star.board b.site.board
     star_site j b fb =
         let st = standing_of O L most (run O w es) later j b fb in
-        past_stars.past_order O L symmetric most (run O w es) later w.star (was_star_run es most w s w.star (past_stars.was_now O L most w s)) j st.0 b st.2 fb
+        past_stars.past_order O L symmetric most (run O w es) w.star (was_star_run es most w s w.star (past_stars.was_now O L symmetric most w s)) j st.0 b st.2 fb
 
     -- a site, and the star at the later moment
     site_star : (i : ℕ) (a : AttachedOf O) → attached i w.sites ≡ Some a → O.t.keeps_order a.site.board (run O w es).star.board

@@ -14,10 +14,10 @@ use Rattle.jup_world.specs.Traces.{Promises, BacklogIsShort, Tallies}
 use Rattle.jup_world.specs.Happenings.{IsQuietAt, AllQuiet, IsWorld}
 use Rattle.jup_world.proofs.EventSteps as steps
 use Rattle.jup_site.proofs.Numbers.{at_one, at_all, at_removal}
-use Rattle.jup_world.proofs.Sound.Runs.{replies, sound-promises}
+use Rattle.jup_world.proofs.Sound.Runs.{replies, sound-promises, sound-backlog}
 use Rattle.jup_world.proofs.Worlds.{link_given, are_linked}
 use Rattle.jup_world.proofs.Sound.Traces.{standing_of}
-use Rattle.jup_world.proofs.Sound.Tallies.{counts-backlog, tallies}
+use Rattle.jup_world.proofs.Sound.Tallies.{tallies}
 
 -- What a delivery that answers nothing says: a world in which all do is quiet.
 
@@ -338,7 +338,7 @@ pub promises : (w : BoardWorld) → IsWorld w → Promises board_batches w
 promises w is = sound-promises board_batches batch_laws most_batches w is.board.sound (are_linked board_batches batch_laws w is.board.strays)
 
 pub backlogs : (w : BoardWorld) → IsWorld w → BacklogIsShort board_batches w
-backlogs w is = counts-backlog board_batches batch_laws most_batches w is.board.sound is.board.counts
+backlogs w is = sound-backlog board_batches batch_laws most_batches w is.board.sound
 
 pub tallies_of : (w : BoardWorld) → IsWorld w → Tallies board_batches w
 tallies_of w is = tallies board_batches w is.board.tallied

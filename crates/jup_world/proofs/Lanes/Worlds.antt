@@ -250,7 +250,7 @@ keeps_spared w v is (inr more) = subst (Keeps w) (sym more.5) (keeps_fetched w m
 -- one world after another
 keeps_chain : (u v w : BoardWorld) → IsWorld u → Keeps u v → Keeps v w → Keeps u w
 keeps_chain u v w is f g = record {
-  star = follows-chain board_batches batch_laws u.star v.star w.star is.board.sound.star.board_known f.star g.star;
+  star = follows-chain board_batches batch_laws u.star v.star w.star is.board.sound.star.star.board_known f.star g.star;
   gone = λ j none old. g.gone j (f.gone j none old) (later j old);
   sites = λ j a c fa fc.
       either (attached j v.sites) (λ o. orders.SiteFollows board_batches batch_laws u w j a c)

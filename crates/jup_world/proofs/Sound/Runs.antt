@@ -1,84 +1,29 @@
 -- A sound world over any events, and what it answers.
-use Rattle.std.proofs.Common.{◌≡◌, ℕ, ◌+◌, ◌<◌, ◌≤◌, ◌⊎◌, List, [], ◌∷◌, ◌++◌, drop, take, length, refl, ap, sym, ◌∙◌, subst, Option, Some, None, option_map, arith, append-nil, append_assoc, take-append-drop, inl, inr, false, nat_lt, Result, Ok, Err, lt-ltb, Bool, true, nat_le, leb-true, leb-false}
-use Rattle.std.proofs.Math.Seq.{drop-append_seam}
+use Rattle.std.proofs.Common.{◌≡◌, ℕ, ◌+◌, ◌<◌, ◌≤◌, ◌⊎◌, List, [], ◌∷◌, ◌++◌, drop, length, refl, ap, sym, ◌∙◌, subst, Option, Some, None, arith, inl, inr, false, nat_lt, Result, Ok, Err, lt-ltb, Bool, true, nat_le, leb-true, leb-false}
 use Rattle.std.proofs.lemmas.Bool.{false_from_ne_true, ltb-true}
-use Rattle.jup_world.specs.Prelude.{most_beyond, last_site, most_attached, Msg, InStepAt, Operations, AreLawful, Entry, Up, UpOp, UpAck, UpPing, DownOp, DownAck, DownPong, LogFull, Full, SitesSpent, Down, StarFault, ups, downs, LinkState, link_acked, link_ponged, link_fetched, link_of, with_links, up_fault, StarOf, join_fault, left, deliver_fault, edit_answer, test, EditFault, Heard, Asked, Left, Taken, Detached, Nothing}
-use Rattle.jup_link.specs.Laws.Steps.{quiet_equal, client_counts, server_counts}
-use Rattle.jup_world.specs.Traces.{Turn, turns, edits, own_edits, made, order_of, joined_at, shown_count, view, AreLinked, Promises}
-use Rattle.jup_world.specs.Worlds.{attached, at_site, WorldOf, EventOf, opened_world, Outcome, outcome, with_outcome, happens, run, only_fetched, ReplyOf, at_number, at_linked, at_attached, join_outcome, edit_outcome, up_outcome, first_up, down_outcome, first_down, unchanged, stray_joins, stray_sends, stray_leaves, at_stray, AttachedOf, one_taken, one_handed, pinged, with_fetched}
-use Rattle.jup_world.specs.Sound.{edits_sent, told_of, Standing, StandsAt, IsSound, JoinReplies, edit_reply, UpReplies, DownReplies, SiteReplies, RepliesTo, IsAnswered, StrayReplies, StrayRepliesTo, SitesHold, OnlyFull}
+use Rattle.jup_world.specs.Prelude.{most_beyond, last_site, most_attached, Msg, Operations, AreLawful, Up, UpOp, UpAck, UpPing, DownOp, DownAck, DownPong, LogFull, Full, SitesSpent, Down, StarFault, downs, LinkState, link_fetched, link_of, fetched, up_fault, StarOf, join_fault, left, deliver_fault, edit_answer, test, EditFault, Asked, Left, Taken, Detached, Nothing}
+use Rattle.jup_world.specs.Traces.{turns, own_edits, made, order_of, joined_at, shown_count, view, AreLinked, Promises, BacklogIsShort}
+use Rattle.jup_world.specs.Worlds.{attached, WorldOf, EventOf, opened_world, Outcome, outcome, happens, run, only_fetched, ReplyOf, at_number, at_linked, at_attached, join_outcome, edit_outcome, up_outcome, first_up, down_outcome, first_down, unchanged, stray_joins, stray_sends, stray_leaves, at_stray, AttachedOf, with_fetched}
+use Rattle.jup_world.specs.Sound.{moment_of, StandsBeside, IsSound, IsIdle, JoinReplies, edit_reply, UpReplies, DownReplies, SiteReplies, RepliesTo, IsAnswered, StrayReplies, StrayRepliesTo, SitesHold, OnlyFull}
 use Rattle.jup_world.specs.Events.{Down as MoveDown, Ping as SendPing, Join, Leave, Edit as MakeEdit, Up as MoveUp, JoinStray, Stray, LeaveStray}
-use Rattle.jup_site.proofs.Pairs.Grids.{own_edits-append, pair-asked}
-use Rattle.jup_site.proofs.Pairs.Places as places
-use Rattle.jup_world.proofs.EventSteps.{Brings, Rises, Strays, StepOf, Still, Enters, EntersStray, Goes, Makes, Asks, Takes, Hands, still_silent, gone_silent, heard_silent, asked_silent, step_of}
-use Rattle.jup_site.proofs.Numbers.{map_kept, at_one, either}
-use Rattle.jup_world.proofs.Sound.Steps as sound_steps
-use Rattle.jup_world.proofs.Sound.Traces.{standing, standing_of}
-use Rattle.jup_site.proofs.Stars as stars
+use Rattle.jup_site.proofs.Pairs.Places.{place-fits}
+use Rattle.jup_site.specs.Moments.{Fetches, FetchesOwn, Runs, Stays, Then}
+use Rattle.jup_site.proofs.Numbers.{at_one, either}
+use Rattle.jup_site.proofs.Stars.{star-opened, called-fetched}
+use Rattle.jup_site.proofs.Beside.{fits, runs-beside}
+use Rattle.jup_site.proofs.Views.{beside-view, beside-answers, beside-heard, beside-equal, beside-whole, beside-backlog}
+use Rattle.jup_world.proofs.Sound.Comes.{ComesTo}
+use Rattle.jup_world.proofs.Sound.Steps.{sound-step}
+use Rattle.jup_world.proofs.Sound.Traces.{beside}
 use Rattle.jup_world.proofs.Stars.{accepted}
 use Rattle.jup_site.proofs.Fits as fitting
 
 -- A world is sound as it is opened, and after any events; and what that promises.
 
 module _ (O : Operations) (L : AreLawful O) where
-  -- an honest operation is taken, or the order is full
-  pub take_cases : (most : ℕ) (w : WorldOf O) (s : IsSound O most w) (i : ℕ) (l : LinkState O.Op) (a : AttachedOf O) (fl : link_of i w.star.links ≡ Some l) (fa : attached i w.sites ≡ Some a)
-      (m : Msg O.Op) (us : List (Up O.Op)) → a.up ≡ UpOp m ∷ us
-      → ((up_fault O w.star l (UpOp m) ≡ None) × (length w.star.order < w.star.limit)) ⊎ ((up_fault O w.star l (UpOp m) ≡ Some LogFull) × (w.star.limit ≤ length w.star.order))
-  take_cases most w s i l a fl fa m us rising =
-      places.place-accepted O L most (O.t.content w.opening) w.star (made i w.trace) i (joined_at O i w.trace) (shown_count i w.trace) l a (standing O L most w s i l a fl fa) (omega (arith, s.star.few, s.star.limited)) m us rising
-
-  module _ (most : ℕ) (w : WorldOf O) (s : IsSound O most w) where
-    -- there is room for what may still come
-    fits : length w.star.order + most_beyond ≤ most
-    fits = omega (arith, s.star.few, s.star.limited)
-
-    -- a site whose acknowledgement or ping was taken; a stranger has none
-    acked : (i : ℕ) (l : LinkState O.Op) → link_of i w.star.links ≡ Some l → (n : ℕ) (oa : Option (AttachedOf O)) → attached i w.sites ≡ oa → (e : EventOf O) → Brings O w i (UpAck n) oa e
-        → StandsAt O most (O.t.content w.opening) (turns i w.star.order) w.star.board (made i w.trace) (joined_at O i w.trace) (shown_count i w.trace) i (Some (link_acked n l)) (option_map (one_taken O) oa)
-    acked i l fl n oa fa e (Rises a us rising) =
-        places.place-acked O L most (O.t.content w.opening) w.star (made i w.trace) i (joined_at O i w.trace) (shown_count i w.trace) l a (standing O L most w s i l a fl fa) fits n us rising
-    acked i l fl n oa fa e Strays = tt
-
-    ponged : (i : ℕ) (l : LinkState O.Op) → link_of i w.star.links ≡ Some l → (k : ℕ) (oa : Option (AttachedOf O)) → attached i w.sites ≡ oa → (e : EventOf O) → Brings O w i (UpPing k) oa e
-        → StandsAt O most (O.t.content w.opening) (turns i w.star.order) w.star.board (made i w.trace) (joined_at O i w.trace) (shown_count i w.trace) i (Some (link_ponged k l)) (option_map (one_taken O) oa)
-    ponged i l fl k oa fa e (Rises a us rising) =
-        places.place-asked O L most (O.t.content w.opening) w.star (made i w.trace) i (joined_at O i w.trace) (shown_count i w.trace) l a (standing O L most w s i l a fl fa) fits k us rising
-    ponged i l fl k oa fa e Strays = tt
-
-    -- an event, by its outcome
-    sound-step : (e : EventOf O) (o : Outcome O) → StepOf O w e o → IsSound O most (with_outcome O w e o)
-    sound-step e o (Still why) = sound_steps.sound-same O L most w e _ s (still_silent O w why)
-    sound-step e o (Enters none) = sound_steps.sound-joined O L most w s (w.star.given + 1) refl
-    sound-step e o (EntersStray none) = sound_steps.sound-entered O L most w s (w.star.given + 1) refl
-    sound-step e o (Goes i l oa fl fa why) = sound_steps.sound-leaves O L most w e _ i s (gone_silent O w why)
-    sound-step e o (Makes i command l a op fl fa ok) = sound_steps.sound-made O L most w s i l a fl fa command op ok
-    sound-step e o (Asks i k l a fl fa) =
-        subst (λ ls. IsSound O most (sound_steps.after_event O L w (with_links w.star ls) (at_site i (pinged O k) w.sites) (SendPing i k) Asked)) (map_kept (λ k. k.site) i w.star.links)
-        (sound_steps.sound-at O L most w (SendPing i k) Asked i (λ z. z) (pinged O k) l (Some a) (λ z. refl) (λ b. refl) s (asked_silent O i k) fl fa
-        (stars.star-at O L most (O.t.content w.opening) w.star s.star i (λ z. z) (λ z. refl) (λ z c. c))
-        (places.stand-pair O L most (O.t.content w.opening) (turns i w.star.order) w.star.board (made i w.trace) (joined_at O i w.trace) (shown_count i w.trace) i l a (standing O L most w s i l a fl fa) w.star.board (made i w.trace) l (pinged O k a)
-        (pair-asked O L most i (O.t.content w.opening) _ _ w.star.board (made i w.trace) l a (standing O L most w s i l a fl fa).pair k)))
-    sound-step e o (Takes i l oa (UpOp m) fl fa brought none) = sound_steps.sound-taken O L most w s i l fl m none oa fa e brought
-    sound-step e o (Takes i l oa (UpAck n) fl fa brought none) =
-        sound_steps.sound-at O L most w e Heard i (λ k. link_acked n k) (one_taken O) l oa (λ k. refl) (λ b. refl) s (heard_silent O e) fl fa
-        (stars.star-acked O L most (O.t.content w.opening) w.star s.star i n) (acked i l fl n oa fa e brought)
-    sound-step e o (Takes i l oa (UpPing k) fl fa brought none) =
-        sound_steps.sound-at O L most w e Heard i (λ z. link_ponged k z) (one_taken O) l oa (λ z. refl) (λ b. refl) s (heard_silent O e) fl fa
-        (stars.star-ponged O L most (O.t.content w.opening) w.star s.star i k) (ponged i l fl k oa fa e brought)
-    sound-step e o (Hands i gone l a (DownOp m) ds fl fa falls none) = sound_steps.sound-shown O L most w s i l a fl fa m gone ds (ap downs falls)
-    sound-step e o (Hands i gone l a (DownAck n) ds fl fa falls none) =
-        sound_steps.sound-at O L most w (MoveDown i) Heard i (link_fetched gone) (λ b. one_handed O (DownAck n) ds b) l (Some a) (λ k. refl) (λ b. refl) s (heard_silent O (MoveDown i)) fl fa
-        (stars.star-fetched O L most (O.t.content w.opening) w.star s.star i gone)
-        (places.place-told O L most (O.t.content w.opening) w.star (made i w.trace) i (joined_at O i w.trace) (shown_count i w.trace) l a (standing O L most w s i l a fl fa) fits n gone ds (ap downs falls))
-    sound-step e o (Hands i gone l a (DownPong k) ds fl fa falls none) =
-        sound_steps.sound-at O L most w (MoveDown i) Heard i (link_fetched gone) (λ b. one_handed O (DownPong k) ds b) l (Some a) (λ z. refl) (λ b. refl) s (heard_silent O (MoveDown i)) fl fa
-        (stars.star-fetched O L most (O.t.content w.opening) w.star s.star i gone)
-        (places.place-answered O L most (O.t.content w.opening) w.star (made i w.trace) i (joined_at O i w.trace) (shown_count i w.trace) l a (standing O L most w s i l a fl fa) fits k gone ds (ap downs falls))
-
   -- every event keeps a world sound
   pub sound-happens : (most : ℕ) (w : WorldOf O) (e : EventOf O) → IsSound O most w → IsSound O most (happens O w e)
-  sound-happens most w e s = sound-step most w s e (outcome O w e) (step_of O w e)
+  sound-happens most w e s = sound-step O L most w s e
 
   -- after any events
   pub sound-run : (es : List (EventOf O)) (most : ℕ) (w : WorldOf O) → IsSound O most w → IsSound O most (run O w es)
@@ -91,100 +36,103 @@ module _ (O : Operations) (L : AreLawful O) where
   sound-opened most limit board distinct small room counted layout = record {
     order_is = refl;
     keeps = refl;
-    star = stars.star-opened O L most limit board distinct small room counted layout;
-    stand = λ i. tt;
-    no_edit = λ i g. refl;
-    no_shown = λ i g. refl;
-    no_entry = λ i g. refl;
+    star = record { star = star-opened O L most limit board distinct small room counted layout; no_entry = λ i above. refl };
+    sites = λ i a none. absurd (cc);
+    no_edit = λ i above. refl;
+    no_shown = λ i above. refl;
   }
 
-  module _ (most : ℕ) (w : WorldOf O) (s : IsSound O most w) where
-    -- a site shows the meaning of what has reached it and of what it made
-    pub shows_view : (i : ℕ) (l : LinkState O.Op) (a : AttachedOf O) → Standing O most (O.t.content w.opening) (turns i w.star.order) w.star.board (made i w.trace) (joined_at O i w.trace) (shown_count i w.trace) i l a
-        → O.t.content a.site.board ≡ O.t.meaning (O.t.content w.opening) (view O i w.trace)
-    shows_view i l a st =
-        let seen : List (Entry O.Edit) → List O.Edit = λ os. edits (take (told_of O (joined_at O i w.trace) (shown_count i w.trace) (turns i os)) (turns i os))
-        ++ drop (length (own_edits (take (told_of O (joined_at O i w.trace) (shown_count i w.trace) (turns i os)) (turns i os)))) (made i w.trace) in
-        let past : List (Turn O.Edit) = take (told_of O (joined_at O i w.trace) (shown_count i w.trace) (turns i w.star.order)) (turns i w.star.order) in
-        let rest : List (Turn O.Edit) = drop (told_of O (joined_at O i w.trace) (shown_count i w.trace) (turns i w.star.order)) (turns i w.star.order) in
-        let mine : made i w.trace ≡ own_edits past ++ (own_edits rest ++ st.pair.raw) =
-        st.pair.all_made ∙ ap (λ es. es ++ st.pair.raw) (own_edits-append past rest) ∙ append_assoc (own_edits past) (own_edits rest) st.pair.raw in
-        let left : drop (length (own_edits past)) (made i w.trace) ≡ own_edits rest ++ st.pair.raw = ap (drop (length (own_edits past))) mine ∙ drop-append_seam (own_edits past) (own_edits rest ++ st.pair.raw) in
-        st.pair.shows ∙ ap (O.t.meaning (O.t.content w.opening)) (append_assoc (edits past) (own_edits rest) st.pair.raw ∙ ap (λ es. edits past ++ es) (sym left) ∙ ap seen (sym s.order_is))
+  -- what a sound world says of a site
+  module _ (most : ℕ) (w : WorldOf O) (s : IsSound O most w) (i : ℕ) (l : LinkState O.Op) (a : AttachedOf O) (h : StandsBeside O most w i l a) where
+    -- it shows the meaning of what has reached it and of what it made
+    pub shows_view : O.t.content a.site.board ≡ O.t.meaning (O.t.content w.opening) (view O i w.trace)
+    shows_view = rw s.order_is (beside-view O L most (O.t.content w.opening) (joined_at O i w.trace) i (moment_of O w i l a) h)
 
-    -- if no message is on its way between them it is level with the star
-    pub level : (i : ℕ) (l : LinkState O.Op) (a : AttachedOf O) → Standing O most (O.t.content w.opening) (turns i w.star.order) w.star.board (made i w.trace) (joined_at O i w.trace) (shown_count i w.trace) i l a
-        → (a.up ≡ []) × (a.down ≡ []) × (l.outbox ≡ []) → a.site.board ≡ w.star.board
-    level i l a st q =
-        quiet_equal O.t
-        (subst (λ f. InStepAt O.t 0 st.pair.from st.pair.site_ahead st.pair.star_ahead a.site.board w.star.board a.site.end l.end [] f) (ap (λ f. downs (f ++ l.outbox)) q.1 ∙ ap downs q.2)
-        (subst (λ r. InStepAt O.t 0 st.pair.from st.pair.site_ahead st.pair.star_ahead a.site.board w.star.board a.site.end l.end r (downs (a.down ++ l.outbox))) (ap ups q.0) st.pair.in_step))
+    -- if no message is on its way between them it is level with the star, and the order has all its edits
+    pub level : IsIdle O l a → a.site.board ≡ w.star.board
+    level q = beside-equal O L most (O.t.content w.opening) (joined_at O i w.trace) i (moment_of O w i l a) h q.0 q.1 q.2
 
-    -- and the order has all its edits
-    pub all_taken : (i : ℕ) (l : LinkState O.Op) (a : AttachedOf O) → Standing O most (O.t.content w.opening) (turns i w.star.order) w.star.board (made i w.trace) (joined_at O i w.trace) (shown_count i w.trace) i l a
-        → (a.up ≡ []) × (a.down ≡ []) × (l.outbox ≡ []) → own_edits (turns i (order_of O w.trace)) ≡ made i w.trace
-    all_taken i l a st q =
-        let mine : made i w.trace ≡ own_edits (turns i w.star.order) ++ st.pair.raw = st.pair.all_made
-        ∙ ap (λ ts. own_edits ts ++ st.pair.raw) (take-append-drop (told_of O (joined_at O i w.trace) (shown_count i w.trace) (turns i w.star.order)) (turns i w.star.order)) in
-        let none : st.pair.raw ≡ [] = sym st.pair.raw_sent ∙ ap (λ r. edits_sent O (ups r)) q.0 in
-        ap (λ os. own_edits (turns i os)) s.order_is ∙ sym (mine ∙ ap (λ es. own_edits (turns i w.star.order) ++ es) none ∙ append-nil (own_edits (turns i w.star.order)))
+    pub all_taken : IsIdle O l a → own_edits (turns i (order_of O w.trace)) ≡ made i w.trace
+    all_taken q = rw s.order_is (beside-whole O L most (O.t.content w.opening) (joined_at O i w.trace) i (moment_of O w i l a) h q.0)
 
   -- what a sound world promises
   pub sound-promises : (most : ℕ) (w : WorldOf O) → IsSound O most w → AreLinked O w → Promises O w
   sound-promises most w s links = record {
     order = sym s.order_is;
     keeps = s.keeps;
-    star_content = s.star.content_is ∙ ap (λ os. O.t.meaning (O.t.content w.opening) (edits (turns 0 os))) (sym s.order_is);
-    site_content = λ i a fa. (let st = standing_of O L most w s i a fa in shows_view most w s i st.0 a st.1);
-    equal = λ q i a fa. (let st = standing_of O L most w s i a fa in level most w s i st.0 a st.1 (q i st.0 a st.2 fa));
-    whole = λ q i a fa. (let st = standing_of O L most w s i a fa in all_taken most w s i st.0 a st.1 (q i st.0 a st.2 fa));
+    star_content = rw s.order_is s.star.star.content_is;
+    site_content = λ i a fa. (let at = s.sites i a fa in shows_view most w s i at.link a at.beside);
+    equal = λ q i a fa. (let at = s.sites i a fa in level most w s i at.link a at.beside (q i at.link a at.linked fa));
+    whole = λ q i a fa. (let at = s.sites i a fa in all_taken most w s i at.link a at.beside (q i at.link a at.linked fa));
     linked = links;
-    running = λ i a fa. (standing_of O L most w s i a fa).1.pair.goes_on;
+    running = λ i a fa. (s.sites i a fa).beside.stands.pair.goes_on;
+  }
+
+  -- its backlogs are short
+  pub sound-backlog : (most : ℕ) (w : WorldOf O) → IsSound O most w → BacklogIsShort O w
+  sound-backlog most w s = record {
+    backlog = λ i a fa. (s.sites i a fa).beside.counts.sent;
+    bounded = λ i a fa. (s.sites i a fa).beside.stands.pair.backlog;
+    quiet = λ none i a fa. (let at = s.sites i a fa in
+        let q = none i at.link a at.linked fa in
+        beside-backlog O L most (O.t.content w.opening) (joined_at O i w.trace) i (moment_of O w i at.link a) at.beside q.0 q.1 q.2);
   }
 
 -- A world of which messages were fetched, and no more, is sound: so a world is sound after a failed allocation.
 
-module _ (O : Operations) (L : AreLawful O) where
+module _ (O : Operations) (L : AreLawful O) (most : ℕ) (w : WorldOf O) (s : IsSound O most w) (i n : ℕ) (l : LinkState O.Op) (a : AttachedOf O) (fl : link_of i w.star.links ≡ Some l) (fa : attached i w.sites ≡ Some a) where
+  -- a site that has the number had it before, and came there by one move
+  abbrev From : ℕ → Option (LinkState O.Op) → Option (AttachedOf O) → Type 0
+  From j ol oa = (c : AttachedOf O) → oa ≡ Some c → (b : AttachedOf O) × (fb : attached j w.sites ≡ Some b) × (k : LinkState O.Op) × (ol ≡ Some k)
+      × Runs O j (moment_of O w j (s.sites j b fb).link b) (moment_of O (only_fetched O w i n l) j k c)
+
+  own : From i (Some (link_fetched n l)) (Some (with_fetched O n l a))
+  own c is =
+      let site : c ≡ with_fetched O n l a = cc in
+      let link : (s.sites i a fa).link ≡ l = (let there = (s.sites i a fa).linked in cc) in
+      (a, fa, link_fetched n l, refl, rw (site, link) (Then _ (FetchesOwn n fl) Stays))
+
+  each : (j : ℕ) → From j (link_of j (fetched i n w.star).links) (attached j (only_fetched O w i n l).sites)
+  each = at_one (λ k. k.site) (λ b. b.site.number) From i (link_fetched n) (with_fetched O n l) (λ k. refl) (λ b. refl) w.star.links w.sites l (Some a) fl fa own
+      (λ j apart c is. (c, is, (s.sites j c is).link, (s.sites j c is).linked, Then _ (Fetches i n apart) Stays))
+
+  pub fetched-from : (j : ℕ) (c : AttachedOf O) → attached j (only_fetched O w i n l).sites ≡ Some c
+      → (b : AttachedOf O) × (fb : attached j w.sites ≡ Some b) × ComesTo O w (only_fetched O w i n l) j (s.sites j b fb).link b c
+  fetched-from j c fc = let from = each j c fc in (from.0, from.1, record { link = from.2; linked = from.3; since = refl; run = from.4 })
+
   -- so it is sound
-  pub sound-fetched : (most : ℕ) (w : WorldOf O) → IsSound O most w → (i n : ℕ) (l : LinkState O.Op) (a : AttachedOf O) → link_of i w.star.links ≡ Some l → attached i w.sites ≡ Some a
-      → IsSound O most (only_fetched O w i n l)
-  sound-fetched most w s i n l a fl fa = record {
+  pub sound-fetched : IsSound O most (only_fetched O w i n l)
+  sound-fetched = record {
     order_is = s.order_is;
     keeps = s.keeps;
-    star = stars.star-fetched O L most (O.t.content w.opening) w.star s.star i n;
-    stand = at_one (λ k. k.site) (λ b. b.site.number)
-        (λ j ol oa. StandsAt O most (O.t.content w.opening) (turns j w.star.order) w.star.board (made j w.trace) (joined_at O j w.trace) (shown_count j w.trace) j ol oa)
-        i (link_fetched n) (with_fetched O n l) (λ k. refl) (λ b. refl) w.star.links w.sites l (Some a) fl fa
-        (places.place-fetched O L most (O.t.content w.opening) w.star (made i w.trace) i (joined_at O i w.trace) (shown_count i w.trace) l a (standing O L most w s i l a fl fa) (omega (arith, s.star.few, s.star.limited)) n)
-        (λ j e. s.stand j);
+    star = (called-fetched O L most (O.t.content w.opening) w.star s.star i n).called;
+    sites = λ j c fc. (let from = fetched-from j c fc in
+        let was = s.sites j from.0 from.1 in
+        record {
+          link = from.2.link;
+          linked = from.2.linked;
+          beside = runs-beside O L most (O.t.content w.opening) (joined_at O j w.trace) j (moment_of O w j was.link from.0) (moment_of O (only_fetched O w i n l) j from.2.link c) from.2.run was.beside;
+        });
     no_edit = s.no_edit;
     no_shown = s.no_shown;
-    no_entry = s.no_entry;
   }
 
 -- Only a full order refuses an attached site anything, and that is an edit.
 
-module _ (O : Operations) (L : AreLawful O) where
-  module _ (most : ℕ) (w : WorldOf O) (s : IsSound O most w) (i : ℕ) (l : LinkState O.Op) (a : AttachedOf O) (fl : link_of i w.star.links ≡ Some l) (fa : attached i w.sites ≡ Some a) where
-    -- the oldest message of an attached site's up stream is taken if it is an acknowledgement
-    pub ack_fits : (n : ℕ) (us : List (Up O.Op)) → a.up ≡ UpAck n ∷ us → up_fault O w.star l (UpAck n) ≡ None
-    ack_fits n us e = acked (standing O L most w s i l a fl fa)
-      where
-        acked : Standing O most (O.t.content w.opening) (turns i w.star.order) w.star.board (made i w.trace) (joined_at O i w.trace) (shown_count i w.trace) i l a → up_fault O w.star l (UpAck n) ≡ None
-        acked st =
-            let step = subst (λ r. InStepAt O.t 0 st.pair.from st.pair.site_ahead st.pair.star_ahead a.site.board w.star.board a.site.end l.end r (downs (a.down ++ l.outbox))) (ap ups e) st.pair.in_step in
-            fitting.take_ack O L w.star l n (server_counts O.t L.lawful step).0
+module _ (O : Operations) (L : AreLawful O) (most : ℕ) (w : WorldOf O) (s : IsSound O most w) (i : ℕ) (l : LinkState O.Op) (a : AttachedOf O) (fl : link_of i w.star.links ≡ Some l) (fa : attached i w.sites ≡ Some a) where
+  -- an honest operation is taken, or the order is full
+  pub take_cases : (m : Msg O.Op) (us : List (Up O.Op)) → a.up ≡ UpOp m ∷ us
+      → ((up_fault O w.star l (UpOp m) ≡ None) × (length w.star.order < w.star.limit)) ⊎ ((up_fault O w.star l (UpOp m) ≡ Some LogFull) × (w.star.limit ≤ length w.star.order))
+  take_cases = beside-answers O L most (O.t.content w.opening) (joined_at O i w.trace) i (moment_of O w i l a) (beside O L most w s i l a fl fa)
 
-    -- the oldest message on an attached site's way down is delivered
-    pub fall_fits : (d : Down O.Op) (gone : ℕ) (falling : List (Down O.Op)) → downs (a.down ++ l.outbox) ≡ downs (d ∷ (falling ++ drop gone l.outbox)) → deliver_fault O d a.site ≡ None
-    fall_fits (DownOp m) gone falling e = sound_steps.shown_fits O L most w s i l a fl fa m gone falling e
-    fall_fits (DownAck n) gone falling e = acked (standing O L most w s i l a fl fa)
-      where
-        acked : Standing O most (O.t.content w.opening) (turns i w.star.order) w.star.board (made i w.trace) (joined_at O i w.trace) (shown_count i w.trace) i l a → deliver_fault O (DownAck n) a.site ≡ None
-        acked st =
-            let step = subst (λ r. InStepAt O.t 0 st.pair.from st.pair.site_ahead st.pair.star_ahead a.site.board w.star.board a.site.end l.end (ups a.up) r) e st.pair.in_step in
-            fitting.deliver_ack O L a.site n st.pair.goes_on (client_counts O.t L.lawful step).0
-    fall_fits (DownPong k) gone falling e = fitting.deliver_pong O L a.site k (standing O L most w s i l a fl fa).pair.goes_on
+  -- the oldest message of an attached site's up stream is taken if it is an acknowledgement
+  pub ack_fits : (n : ℕ) (us : List (Up O.Op)) → a.up ≡ UpAck n ∷ us → up_fault O w.star l (UpAck n) ≡ None
+  ack_fits = beside-heard O L most (O.t.content w.opening) (joined_at O i w.trace) i (moment_of O w i l a) (beside O L most w s i l a fl fa)
+
+  -- the oldest message on an attached site's way down is delivered
+  pub fall_fits : (d : Down O.Op) (gone : ℕ) (falling : List (Down O.Op)) → downs (a.down ++ l.outbox) ≡ downs (d ∷ (falling ++ drop gone l.outbox)) → deliver_fault O d a.site ≡ None
+  fall_fits = (let h = beside O L most w s i l a fl fa in
+      place-fits O L most (O.t.content w.opening) w.star (made i w.trace) i (joined_at O i w.trace) (shown_count i w.trace) l a h.stands (fits O L most (O.t.content w.opening) (joined_at O i w.trace) i (moment_of O w i l a) h))
 
 -- In a sound world each event answers what it should, and nothing is withheld.
 
@@ -285,9 +233,10 @@ module _ (O : Operations) (L : AreLawful O) where
   -- each site beside its link
   pub sites-hold : (most : ℕ) (w : WorldOf O) → IsSound O most w → SitesHold O w
   sites-hold most w s i l a fl fa =
-      let st = standing O L most w s i l a fl fa in
+      let h = beside O L most w s i l a fl fa in
+      let st = h.stands in
       record {
-        content = shows_view O L most w s i l a st;
+        content = shows_view O L most w s i l a h;
         in_step = record {
           client_side = st.pair.site_side;
           server_side = st.pair.link_side;
@@ -297,15 +246,15 @@ module _ (O : Operations) (L : AreLawful O) where
           meets = st.pair.in_step;
         };
         running = st.pair.goes_on;
-        equal = level O L most w s i l a st;
-        whole = all_taken O L most w s i l a st;
+        equal = level O L most w s i l a h;
+        whole = all_taken O L most w s i l a h;
       }
 
   -- a full order alone detaches it
   pub only-full : (most : ℕ) (w : WorldOf O) → IsSound O most w → OnlyFull O w
   only-full most w s i a fault fa is =
-      let st = standing_of O L most w s i a fa in
-      cases a.up ((replies O L most w s (MoveUp i)).present st.0 a st.2 fa)
+      let at = s.sites i a fa in
+      cases a.up ((replies O L most w s (MoveUp i)).present at.link a at.linked fa)
     where
       cases : (us : List (Up O.Op)) → UpReplies O w.star us (outcome O w (MoveUp i)).reply → (fault ≡ LogFull) × (w.star.limit ≤ length w.star.order)
       cases [] r = absurd cc
@@ -357,7 +306,7 @@ module _ (O : Operations) (L : AreLawful O) where
     sent_one : (i : ℕ) (up : Up O.Op) (l : LinkState O.Op) → link_of i w.star.links ≡ Some l
         → (let o = stray_sends O w i l up (up_fault O w.star l up) in IsAnswered O w.star i l up o.reply o.star)
     sent_one i up l fl = either (up_fault O w.star l up) (λ f. let o = stray_sends O w i l up f in IsAnswered O w.star i l up o.reply o.star)
-        (λ fits. inr (accepted O L most (O.t.content w.opening) w.star s.star i l fl up fits)) (λ fault is. inl (record { fault = fault; cause = is; reply = refl; star = refl }))
+        (λ fits. inr (accepted O L most (O.t.content w.opening) w.star s.star.star i l fl up fits)) (λ fault is. inl (record { fault = fault; cause = is; reply = refl; star = refl }))
 
     sends_kept : (i : ℕ) (up : Up O.Op) (l : LinkState O.Op) (f : Option StarFault) → (stray_sends O w i l up f).sites ≡ w.sites
     sends_kept i up l None = refl

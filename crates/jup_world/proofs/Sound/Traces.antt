@@ -1,12 +1,12 @@
 -- What an event adds to the trace.
-use Rattle.std.proofs.Common.{◌≡◌, ℕ, ◌+◌, ◌≤◌, Bool, true, false, ◌||◌, List, [], ◌∷◌, ◌++◌, length, drop, refl, ap, sym, ◌∙◌, arith, append_assoc, append-nil, subst, Option, Some, None, take-append-drop}
+use Rattle.std.proofs.Common.{◌≡◌, ℕ, ◌+◌, ◌<◌, Bool, true, false, ◌||◌, List, [], ◌∷◌, ◌++◌, length, drop, refl, ap, sym, ◌∙◌, arith, append_assoc, append-nil, Some, None, take-append-drop}
 use Rattle.std.proofs.Math.Seq.{drop-append_seam}
-use Rattle.jup_world.specs.Prelude.{most_beyond, Msg, Operations, AreLawful, Up, UpOp, ups, LinkState, link_of, entry, Taken}
+use Rattle.jup_world.specs.Prelude.{Msg, Operations, AreLawful, Up, UpOp, ups, LinkState, link_of, entry, Taken}
 use Rattle.jup_world.specs.Traces.{turns, own_edits, over_trace, edit_made, made, entry_taken, order_of, join_seen, joined_at, was_shown, shown_count, stray_seen, is_stray, first_of_site}
 use Rattle.jup_world.specs.Events.{Happened, Up as MoveUp}
 use Rattle.jup_world.specs.Worlds.{HappenedOf, attached, WorldOf, AttachedOf}
-use Rattle.jup_world.specs.Sound.{edits_sent, told_of, Standing, StandsAt, IsSound}
-use Rattle.jup_site.proofs.Turns.{length-turns}
+use Rattle.jup_world.specs.Sound.{edits_sent, told_of, Standing, StandsBeside, IsSound}
+use Rattle.jup_site.proofs.Numbers.{either}
 
 -- What one more event adds to what is read off a trace.
 
@@ -52,38 +52,38 @@ module _ (O : Operations) where
 -- Where a site of a world is, and the order that the trace gives once the star took its edit.
 
 module _ (O : Operations) (L : AreLawful O) where
-  -- an operation's link and site are found
-  module _ (most : ℕ) (w : WorldOf O) (s : IsSound O most w) (i : ℕ) (l : LinkState O.Op) (a : AttachedOf O) (fl : link_of i w.star.links ≡ Some l) (fa : attached i w.sites ≡ Some a) where
-    -- the site at its place of the order
-    pub standing : Standing O most (O.t.content w.opening) (turns i w.star.order) w.star.board (made i w.trace) (joined_at O i w.trace) (shown_count i w.trace) i l a
-    standing = subst (λ o. StandsAt O most (O.t.content w.opening) (turns i w.star.order) w.star.board (made i w.trace) (joined_at O i w.trace) (shown_count i w.trace) i (Some l) o) fa
-        (subst (λ o. StandsAt O most (O.t.content w.opening) (turns i w.star.order) w.star.board (made i w.trace) (joined_at O i w.trace) (shown_count i w.trace) i o (attached i w.sites)) fl (s.stand i))
+  -- a site with its link is beside the star,
+  pub beside : (most : ℕ) (w : WorldOf O) → IsSound O most w → (i : ℕ) (l : LinkState O.Op) (a : AttachedOf O) → link_of i w.star.links ≡ Some l → attached i w.sites ≡ Some a → StandsBeside O most w i l a
+  beside most w s i l a fl fa =
+      let here = s.sites i a fa in
+      let same : l ≡ here.link = (let there = here.linked in cc) in
+      rw same here.beside
 
-    -- there is room for what may still come
-    pub order_fits : length (turns i w.star.order) + most_beyond ≤ most
-    order_fits = omega (arith, length-turns i w.star.order, s.star.few, s.star.limited)
+  -- at its place of the order
+  pub standing : (most : ℕ) (w : WorldOf O) → IsSound O most w → (i : ℕ) (l : LinkState O.Op) (a : AttachedOf O) → link_of i w.star.links ≡ Some l → attached i w.sites ≡ Some a
+      → Standing O most (O.t.content w.opening) (turns i w.star.order) w.star.board (made i w.trace) (joined_at O i w.trace) (shown_count i w.trace) i l a
+  standing most w s i l a fl fa = (beside most w s i l a fl fa).stands
 
-  -- an attached site has a link
+  -- and has a link
   pub standing_of : (most : ℕ) (w : WorldOf O) → IsSound O most w → (i : ℕ) (a : AttachedOf O) → attached i w.sites ≡ Some a
       → (l : LinkState O.Op) × Standing O most (O.t.content w.opening) (turns i w.star.order) w.star.board (made i w.trace) (joined_at O i w.trace) (shown_count i w.trace) i l a × (link_of i w.star.links ≡ Some l)
-  standing_of most w s i a fa = linked (link_of i w.star.links) refl (subst (λ o. StandsAt O most (O.t.content w.opening) (turns i w.star.order) w.star.board (made i w.trace) (joined_at O i w.trace) (shown_count i w.trace) i (link_of i w.star.links) o) fa (s.stand i))
-    where
-      linked : (o : Option (LinkState O.Op)) → link_of i w.star.links ≡ o → StandsAt O most (O.t.content w.opening) (turns i w.star.order) w.star.board (made i w.trace) (joined_at O i w.trace) (shown_count i w.trace) i o (Some a)
-          → (l : LinkState O.Op) × Standing O most (O.t.content w.opening) (turns i w.star.order) w.star.board (made i w.trace) (joined_at O i w.trace) (shown_count i w.trace) i l a × (link_of i w.star.links ≡ Some l)
-      linked None e h = absurd h
-      linked (Some l) e h = (l, h, e)
+  standing_of most w s i a fa = let here = s.sites i a fa in (here.link, here.beside.stands, here.linked)
 
-  -- the order that the trace gives once the star took an edit of a site
-  module _ (most : ℕ) (w : WorldOf O) (s : IsSound O most w) (i : ℕ) (l : LinkState O.Op) (a : AttachedOf O) (fl : link_of i w.star.links ≡ Some l) (fa : attached i w.sites ≡ Some a)
-      (m : Msg O.Op) (us : List (Up O.Op)) (rising : a.up ≡ UpOp m ∷ us) where
-    pub order_told : order_of O (w.trace ++ record { event = MoveUp i; reply = Taken (length w.star.order) } ∷ []) ≡ w.star.order ++ entry O i m ∷ []
-    order_told =
+  module _ (most : ℕ) (w : WorldOf O) (s : IsSound O most w) where
+    -- a number that was not given has no site
+    pub no_site : (i : ℕ) → w.star.given < i → attached i w.sites ≡ None
+    no_site i above = either (attached i w.sites) (λ o. o ≡ None) (λ none. refl) (λ a fa. (let low = (s.sites i a fa).beside.given in absurd (omega arith)))
+
+    -- the order that the trace gives once the star took an edit of a site
+    pub order_told : (i : ℕ) (a : AttachedOf O) → attached i w.sites ≡ Some a → (m : Msg O.Op) (us : List (Up O.Op)) → a.up ≡ UpOp m ∷ us
+        → order_of O (w.trace ++ record { event = MoveUp i; reply = Taken (length w.star.order) } ∷ []) ≡ w.star.order ++ entry O i m ∷ []
+    order_told i a fa m us rising =
         order-end O w.trace (record { event = MoveUp i; reply = Taken (length w.star.order) })
         ∙ ap (λ es. es ++ first_of_site i (drop (length (own_edits (turns i es))) (made i w.trace))) s.order_is
         ∙ ap (λ es. w.star.order ++ first_of_site i es) next_is
       where
-        st : Standing O most (O.t.content w.opening) (turns i w.star.order) w.star.board (made i w.trace) (joined_at O i w.trace) (shown_count i w.trace) i l a
-        st = standing most w s i l a fl fa
+        st : Standing O most (O.t.content w.opening) (turns i w.star.order) w.star.board (made i w.trace) (joined_at O i w.trace) (shown_count i w.trace) i (s.sites i a fa).link a
+        st = (s.sites i a fa).beside.stands
 
         mine_is : made i w.trace ≡ own_edits (turns i w.star.order) ++ (O.t.edit_of m.op ∷ edits_sent O (ups us))
         mine_is =

@@ -4,7 +4,7 @@ use Rattle.jup_world.specs.Worlds.{opened_world}
 use Rattle.jup_world.specs.Traces.{is_stray}
 use Rattle.jup_world.specs.Prelude.{board_batches, batch_laws, most_batches}
 use Rattle.jup_world.proofs.Sound.Runs as sound_runs
-use Rattle.jup_world.proofs.Sound.Tallies.{counts-backlog, tallies}
+use Rattle.jup_world.proofs.Sound.Tallies.{tallies}
 use Rattle.jup_world.proofs.Worlds as worlds
 use Rattle.jup_world.proofs.Orders.{run-follows, run_follows}
 use Rattle.jup_world.proofs.promises.worlds_agree.Goals as goal
@@ -19,9 +19,7 @@ pub returns-clause-tallies : goal.returns-clause-tallies
 returns-clause-tallies c w reached = tallies board_batches w (worlds.reached_sound w reached).tallied
 
 pub returns-clause-backlog : goal.returns-clause-backlog
-returns-clause-backlog c w reached =
-    let is = worlds.reached_sound w reached in
-    counts-backlog board_batches batch_laws most_batches w is.sound is.counts
+returns-clause-backlog c w reached = sound_runs.sound-backlog board_batches batch_laws most_batches w (worlds.reached_sound w reached).sound
 
 pub returns-clause-order : goal.returns-clause-order
 returns-clause-order c w reached events =

@@ -2,7 +2,7 @@
 use Rattle.std.proofs.Common.{◌≡◌, ℕ, suc, ◌+◌, ◌<◌, ◌≤◌, Bool, true, false, cond, List, [], ◌∷◌, ◌++◌, map, length, refl, sym, ap, ◌∙◌, subst, arith, append-nil, append_assoc, inl, inr, ◌⊎◌, length-append, bytes_eq, ◌-◌, Result, Ok, ◌&&◌, nat_le, Option, Some, None, if◌then◌else◌, All}
 use Rattle.std.proofs.lemmas.Slice.Eq.{bytes_eq-Decides}
 use Rattle.jup_app.specs.Prelude.{highest_limit, board_batches, Fetch, Join, Fetched, OpenFault, BoardSite, BoardAttached, one_taken, IsOpening, HubEvent, Tally, View, view_of, most_fetched, Player, SiteEnd, Halt, AllByRecursion, eq-eqb, eqb, append_cancel_left, map-append, eqb_tells, calls_by, AllTallied, IsNew, AllApart, entry, longest, having_seen, Called, Meets, BeginsWith, BeginsWithAll, split_from, with_call, tallies, joined_with}
-use Rattle.jup_window.specs.Boards.{Windows, bare, HasDistinctNames, only_site}
+use Rattle.jup_window.specs.Boards as boards
 use Rattle.jup_window.specs.Entries.{EachWidget}
 use Rattle.jup_star.specs.declared.calls.StarReply.TheVariants as reply
 use Rattle.jup_star.specs.Stars.{opened_star, BoardStar, star_open_fault, IsShort}
@@ -296,16 +296,16 @@ caught_handles i j v u w n m l k c h = record { history = c.history; met = c.met
 
 -- The board of a star that was opened.
 
-open_fits : (b : Windows) (limit : ℕ) → ◌≡◌ {A = Option OpenFault} None (star_open_fault b limit) → only_site 0 b ≡ true
-open_fits b limit fine = go (nat_le 1 limit && nat_le limit highest_limit) (only_site 0 b) refl fine
+open_fits : (b : boards.Windows) (limit : ℕ) → ◌≡◌ {A = Option OpenFault} None (star_open_fault b limit) → boards.only_site 0 b ≡ true
+open_fits b limit fine = go (nat_le 1 limit && nat_le limit highest_limit) (boards.only_site 0 b) refl fine
   where
-    go : (x y : Bool) → only_site 0 b ≡ y → ◌≡◌ {A = Option OpenFault} None (if x then (if y then None else Some BadSite) else Some BadLimit) → only_site 0 b ≡ true
+    go : (x y : Bool) → boards.only_site 0 b ≡ y → ◌≡◌ {A = Option OpenFault} None (if x then (if y then None else Some BadSite) else Some BadLimit) → boards.only_site 0 b ≡ true
     go true true e f = e
     go true false e f = absurd cc
     go false y e f = absurd cc
 
-pub opens : (b : Windows) (limit : ℕ) (star : BoardStar) → EachWidget IsShort b → HasDistinctNames b → ◌≡◌ {A = Option OpenFault} None (star_open_fault (bare b) limit) → star ≡ opened_star (bare b) limit → IsOpening star.board
-opens b limit star short distinct fine is = subst (λ (s : BoardStar). IsOpening s.board) (sym is) (record { distinct = distinct_bare b distinct; unsigned = open_fits (bare b) limit fine; short = short_bare b short })
+pub opens : (b : boards.Windows) (limit : ℕ) (star : BoardStar) → EachWidget IsShort b → boards.HasDistinctNames b → ◌≡◌ {A = Option OpenFault} None (star_open_fault (boards.bare b) limit) → star ≡ opened_star (boards.bare b) limit → IsOpening star.board
+opens b limit star short distinct fine is = subst (λ (s : BoardStar). IsOpening s.board) (sym is) (record { distinct = distinct_bare b distinct; unsigned = open_fits (boards.bare b) limit fine; short = short_bare b short })
 
 -- What the first pass of a run knows, put together.
 

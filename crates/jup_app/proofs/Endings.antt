@@ -5,7 +5,7 @@ use Rattle.jup_star.specs.declared.calls.StarReply.TheVariants as reply
 use Rattle.jup_star.specs.Stars.{BoardStar, reply_of, star_after, opened_star}
 use Rattle.jup_app.specs.Runs.{EditAnswer, Made, made, Step, calls_of, edits_of, singles, IsPlayed, makes, link_with, all_tallies, all_calls, end_of, IsJob, Ran, AllRan, IsSite, site_of, joins, assembled, HasSeen, joined_call, HasJoinedAll, HasMet, IsSame, HasTaken, AreJobs, no_site, IsDrained, AreNumbered, empty_fetches, IsRun, IsRunOf}
 use Rattle.jup_app.proofs.Calls.{total, edits_of-append}
-use Rattle.jup_app.proofs.Stars.{played_number, IsIdle, IsTidy, tidy_through, fetch_nothing, fetch_empty}
+use Rattle.jup_app.proofs.Stars as stars
 use Rattle.jup_app.proofs.WholeRuns.{HasJoined, has_joined, Known, Whole, Parts, parts, tracks, both_logs, assembled_run, legal_append, star_through-append}
 use Rattle.jup_app.proofs.Passes.{begins_trans}
 use Rattle.jup_app.proofs.Simulate.{Ends}
@@ -40,7 +40,7 @@ ran_by hub joined site script job p j r =
         commands = ap (λ es. map (λ (e : Commands × EditAnswer). e.0) es) w.edits_are ∙ r.played.commands ∙ ap singles j.script_is;
         answers = ap (λ es. map (λ (e : Commands × EditAnswer). e.1) es) w.edits_are ∙ r.played.answers;
         played = subst (λ s. IsPlayed (link_with s []) w.steps (link_with p.site [])) seat.site_is w.plays.played;
-        number_is = played_number w.steps (link_with job.player.site []) (link_with p.site []) w.plays.played ∙ ap (λ (x : BoardSite). x.number) seat.site_is;
+        number_is = stars.played_number w.steps (link_with job.player.site []) (link_with p.site []) w.plays.played ∙ ap (λ (x : BoardSite). x.number) seat.site_is;
       },
     )
 
@@ -172,20 +172,20 @@ makes_split (e ∷ h) (x ∷ xs) ys is =
     let rest = makes_split h xs ys tail in
     (e ∷ rest.0, rest.1, ap (λ k. e ∷ k) rest.2, ap (λ ms. made e ∷ ms) rest.3 ∙ ap (λ m. m ∷ xs) head, rest.4)
 
-last_quiet : (i : ℕ) (s : BoardStar) (h : List HubEvent) → IsTidy s → makes h ≡ record { call = Fetch i most_fetched; reply = reply.Fetched (Ok []) } ∷ [] → IsLegal s h → (star_through s h ≡ s) × (IsIdle s i)
+last_quiet : (i : ℕ) (s : BoardStar) (h : List HubEvent) → stars.IsTidy s → makes h ≡ record { call = Fetch i most_fetched; reply = reply.Fetched (Ok []) } ∷ [] → IsLegal s h → (star_through s h ≡ s) × (stars.IsIdle s i)
 last_quiet i s [] tidy are legal = absurd cc
 last_quiet i s (e ∷ f ∷ h) tidy are legal = absurd cc
 last_quiet i s (e ∷ []) tidy are legal =
     let head : made e ≡ record { call = Fetch i most_fetched; reply = reply.Fetched (Ok []) } = cc in
     let call : e.call ≡ Fetch i most_fetched = ap (λ (m : Made). m.call) head in
     let told : reply_of (Fetch i most_fetched) s ≡ reply.Fetched (Ok []) = ap (λ k. reply_of k s) (sym call) ∙ sym legal.0 ∙ ap (λ (m : Made). m.reply) head in
-    (ap (λ k. star_after k s) call ∙ fetch_nothing s i most_fetched tidy told, fetch_empty s i most_fetched (lit< tt) told)
+    (ap (λ k. star_after k s) call ∙ stars.fetch_nothing s i most_fetched tidy told, stars.fetch_empty s i most_fetched (lit< tt) told)
 
 le_cases : (i n : ℕ) → (i ≤ n) ⊎ (n < i)
 le_cases i n = elim (dec_le i n) [ yes low ↦ inl low | no high ↦ inr (omega arith) ]
 
 -- after fetches that gave nothing, of the first n sites, these have nothing in their outboxes
-quiet_after : (n : ℕ) (s : BoardStar) (h : List HubEvent) → IsTidy s → makes h ≡ empty_fetches n → IsLegal s h → (star_through s h ≡ s) × ((i : ℕ) → IsSite n i → IsIdle s i)
+quiet_after : (n : ℕ) (s : BoardStar) (h : List HubEvent) → stars.IsTidy s → makes h ≡ empty_fetches n → IsLegal s h → (star_through s h ≡ s) × ((i : ℕ) → IsSite n i → stars.IsIdle s i)
 quiet_after zero s [] tidy are legal = (refl, λ i site. absurd (omega arith))
 quiet_after zero s (e ∷ h) tidy are legal = absurd cc
 quiet_after (suc n) s h tidy are legal =
@@ -194,15 +194,15 @@ quiet_after (suc n) s h tidy are legal =
     let rest = quiet_after n s p.0 tidy p.3 both.0 in
     let last = last_quiet (suc n) s p.1 tidy p.4 (subst (λ t. IsLegal t p.1) rest.0 both.1) in (
       ap (λ k. star_through s k) p.2 ∙ star_through-append s p.0 p.1 ∙ ap (λ t. star_through t p.1) rest.0 ∙ last.0,
-      λ i site. elim (le_cases i n) [ inl low ↦ rest.1 i (site.0, low) | inr high ↦ let same : suc n ≡ i = omega (arith, site.1, high) in subst (λ j. IsIdle s j) same last.1 ],
+      λ i site. elim (le_cases i n) [ inl low ↦ rest.1 i (site.0, low) | inr high ↦ let same : suc n ≡ i = omega (arith, site.1, high) in subst (λ j. stars.IsIdle s j) same last.1 ],
     )
 
 -- at the end of a history too
-quiet_end : (n : ℕ) (s : BoardStar) (front tail : List HubEvent) (i : ℕ) → IsTidy s → makes tail ≡ empty_fetches n → IsLegal s (front ++ tail) → IsSite n i → IsIdle (star_through s (front ++ tail)) i
+quiet_end : (n : ℕ) (s : BoardStar) (front tail : List HubEvent) (i : ℕ) → stars.IsTidy s → makes tail ≡ empty_fetches n → IsLegal s (front ++ tail) → IsSite n i → stars.IsIdle (star_through s (front ++ tail)) i
 quiet_end n s front tail i tidy are legal site =
     let both = legal_append s front tail legal in
-    let q = quiet_after n (star_through s front) tail (tidy_through front s tidy) are both.1 in
-    subst (λ t. IsIdle t i) (sym (star_through-append s front tail ∙ q.0)) (q.1 i site)
+    let q = quiet_after n (star_through s front) tail (stars.tidy_through front s tidy) are both.1 in
+    subst (λ t. stars.IsIdle t i) (sym (star_through-append s front tail ∙ q.0)) (q.1 i site)
 
 all_joins : (h : List HubEvent) (js : List BoardSite) → makes h ≡ map joined_call js → AllByRecursion (λ (e : HubEvent). e.call ≡ Join) h
 all_joins [] js are = tt
@@ -356,7 +356,7 @@ module _ (board : Windows) (limit : ℕ) (opened : IsOpening board) (low : limit
   unfolding logs
   edits_are k = edits_of-append (all_logs.0 (suc k - 1)) (facts.drained.drained.logs (suc k)) ∙ ap (λ es. edits_of (all_logs.0 (suc k - 1)) ++ es) (facts.drained.drained.no_edits (suc k)) ∙ append-nil (edits_of (all_logs.0 (suc k - 1))) ∙ ap (λ j. edits_of (all_logs.0 j)) (down_up k)
 
-  quiet_there : (i : ℕ) → IsSite (length js) i → IsIdle (star_through (opened_star board limit) h) i
+  quiet_there : (i : ℕ) → IsSite (length js) i → stars.IsIdle (star_through (opened_star board limit) h) i
   unfolding known
   quiet_there i site =
       let quiet = facts.drained in
@@ -366,7 +366,7 @@ module _ (board : Windows) (limit : ℕ) (opened : IsOpening board) (low : limit
       ∙ ap (λ r. (parts known).joined ++ r) (sym (append_assoc (parts known).between quiet.earlier quiet.empties))
       ∙ sym (append_assoc (parts known).joined ((parts known).between ++ quiet.earlier) quiet.empties) in
       let numbers : makes quiet.empties ≡ empty_fetches (length js) = quiet.are numbered ∙ ap empty_fetches many_before in
-      subst (λ k. IsIdle (star_through (opened_star board limit) k) i) (sym shape)
+      subst (λ k. stars.IsIdle (star_through (opened_star board limit) k) i) (sym shape)
       (quiet_end (length js) (opened_star board limit) ((parts known).joined ++ ((parts known).between ++ quiet.earlier)) quiet.empties i (record { apart = tt; within = tt }) numbers (subst (λ k. IsLegal (opened_star board limit) k) shape known.legal) site)
 
   run_of_js : IsRunOf board limit (length js) scripts (star_through (opened_star board limit) h) after

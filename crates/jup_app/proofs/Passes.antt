@@ -5,7 +5,7 @@ use Rattle.jup_star.specs.declared.calls.StarReply.TheVariants as reply
 use Rattle.jup_session.specs.Sessions.{HasAnswered}
 use Rattle.jup_app.specs.Runs.{BoardUp, BoardDown, delivered, Made, made, Step, Edited, Took, Got, calls_of, edits_of, IsPlayed, IsAccepted, all_delivered, AcceptsAll, makes, link_with, HasSeen, Plays, Handles, IsDelivering, site_of, IsSite, with_log, calls_at, FoundNothing, AreNumbered, Drained, EndsQuiet, IsDrained, empty_fetches, EditAnswer, edited, answer_to, edit_by, answer_by, singles, Works, Answered, Played, HasMet, IsSame, IsJob, AreJobs, no_site}
 use Rattle.jup_app.proofs.Calls.{makes-append, calls_of-append, played_both, edits_of-append, each_both, each_weaker, each_made, apart, calls_at-append, calls_at_own, calls_at_other, calls_own}
-use Rattle.jup_app.proofs.Stars.{played_number, edit_gives, edit_refused}
+use Rattle.jup_app.proofs.Stars as stars
 use Rattle.jup_app.proofs.Simulate.{at_each}
 
 -- What the calls of a pass do for one site, put together.
@@ -223,7 +223,7 @@ drained_more v w x n m o old new k e t within a at h =
           (played_both (a.logs i) now.steps (link_with (get_or old k d).site []) (link_with e.site []) (link_with t [])
           (subst (λ z. IsPlayed (link_with (get_or old k d).site []) (a.logs i) (link_with z.site [])) (at d) (a.played k d within)) now.plays.played)))
           (λ ne. subst (λ log. IsPlayed (link_with (get_or old j d).site []) log (link_with (get_or new j d).site [])) (sym (with_other i (suc j) (a.logs i ++ now.steps) a.logs (apart (suc j) i (λ e. ne (omega arith))))) (a.played j d in_old));
-      numbers = λ j d in_old. at_place (λ (z : SiteEnd). z.site.number ≡ (get_or old j d).site.number) new k j e' d inside (λ is. subst (λ q. t.number ≡ (get_or old q d).site.number) (sym is) (played_number now.steps (link_with e.site []) (link_with t []) now.plays.played ∙ ap (λ (z : SiteEnd). z.site.number) (sym (at d)) ∙ a.numbers k d within)) (λ ne. a.numbers j d in_old);
+      numbers = λ j d in_old. at_place (λ (z : SiteEnd). z.site.number ≡ (get_or old j d).site.number) new k j e' d inside (λ is. subst (λ q. t.number ≡ (get_or old q d).site.number) (sym is) (stars.played_number now.steps (link_with e.site []) (link_with t []) now.plays.played ∙ ap (λ (z : SiteEnd). z.site.number) (sym (at d)) ∙ a.numbers k d within)) (λ ne. a.numbers j d in_old);
       replies = λ j d in_old. at_place (λ (z : SiteEnd). z.replies ≡ (get_or old j d).replies) new k j e' d inside (λ is. subst (λ q. e.replies ≡ (get_or old q d).replies) (sym is) (ap (λ (z : SiteEnd). z.replies) (sym (at d)) ∙ a.replies k d within)) (λ ne. a.replies j d in_old);
     }
 
@@ -315,7 +315,7 @@ pub works_made : (i : ℕ) (u v w x : View) (n o p q : ℕ) (s t t' t'' z : Boar
     → Handles i v w o p (link_with t' (m.up ∷ [])) (link_with t'' []) → Handles i w x p q (link_with t'' []) (link_with z []) → Works i u x n q s z ((c, Ok m.edit) ∷ [])
 unfolding plays_both plays_edit plays_from
 works_made i u v w x n o p q s t t' t'' z c m before answers sent after =
-    let g = edit_gives c t t' m answers in
+    let g = stars.edit_gives c t t' m answers in
     let rest = handles_both i v w x o p q (link_with t' (m.up ∷ [])) (link_with t'' []) (link_with z []) sent after in
     let made : edited c (link_with t []) ≡ link_with t' (m.up ∷ []) =
     ap (λ (a : Result BoardBatch EditFault). edit_by a (link_with t [])) g.is ∙ ap (λ (y : BoardSite). link_with y ((made_by g.op t).up ∷ [])) (sym g.site) ∙ ap (λ (y : MadeEdit). link_with t' (y.up ∷ [])) (sym g.made) in
@@ -402,7 +402,7 @@ played_all i v w n m s t script k replies past p = subst (λ cs. Played i v w n 
 pub declined_answer : (i : ℕ) (u v : View) (n o : ℕ) (s t t' : BoardSite) (c : Commands) (f f' : EditFault) (old new : List (Result BoardEdits EditFault)) → Handles i u v n o (link_with s []) (link_with t [])
     → EditAnswers c t t' (Err f) → (f' ≡ f) × (is_edit_memory f ≡ false) → new ≡ old ++ Err f' ∷ [] → Answered i u v n o s t' c old new
 declined_answer i u v n o s t t' c f f' old new before answers fault replies =
-    let both = edit_refused c t t' f fault.1 answers in
+    let both = stars.edit_refused c t t' f fault.1 answers in
     let refusal : ◌≡◌ {A = EditAnswer} (Err f) (Err f') = ap (λ (g : EditFault). Err g) (sym fault.0) in
     record {
       reply = Err f';

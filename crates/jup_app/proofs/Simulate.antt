@@ -9,7 +9,7 @@ use Rattle.jup_world.specs.Worlds.{at_site, at_linked, at_attached, edit_outcome
 use Rattle.jup_world.proofs.Sound.Traces.{standing_of}
 use Rattle.jup_world.proofs.Worlds.{reached_sound}
 use Rattle.jup_app.specs.Runs.{BoardUp, BoardDown, EditAnswer, Made, made, Step, Edited, Took, Got, calls_of, edits_of, IsPlayed, IsAccepted, edited, answer_to, edit_by, answer_by, delivered, all_delivered, AcceptsAll, site_of, made_at, deliveries, through_call, past_call, with_log, left_over, assembled, IsSite, edit_at, edits_at}
-use Rattle.jup_app.proofs.Stars.{IsTidy, tidy_after, take_gives, fetch_in_parts, fetch_nothing}
+use Rattle.jup_app.proofs.Stars as stars
 use Rattle.jup_world.specs.Prelude.{link_of, fetched, most_batches, BoardStar, found-map, found-map_other}
 
 eqb_self : (i : ℕ) → eqb i i ≡ true
@@ -126,7 +126,7 @@ edit_leads w i c l k is link = leads_one {o = edit_outcome board_batches w i (ed
 pub up_leads : (w : BoardWorld) (i : ℕ) (u : BoardUp) (p : Option ℕ) (l : BoardAttached) → attached i w.sites ≡ Some l → l.up ≡ u ∷ drop 1 l.up → reply_of (Take i u) w.star ≡ reply.Taken (Ok p)
     → Leads w (event.Up i ∷ []) i (star_after (Take i u) w.star) (one_taken board_batches l) []
 up_leads w i u p l is oldest replied =
-    let t = take_gives w.star i u p replied in
+    let t = stars.take_gives w.star i u p replied in
     leads_one {o = up_outcome board_batches w i t.link u None}
     (ap (λ (o : Option BoardLink). at_linked board_batches w i (λ k a. first_up board_batches w i k a.up) o) t.is
     ∙ ap (λ (o : Option BoardAttached). at_attached board_batches w t.link (λ k a. first_up board_batches w i k a.up) o) is
@@ -171,15 +171,15 @@ all_delivered_down [] l = refl
 all_delivered_down (d ∷ ds) l = all_delivered_down ds (delivered d l) ∙ delivered_down d l
 
 -- a fetch that gave several messages is as many deliveries
-pub downs_lead : (ds : List BoardDown) (w : BoardWorld) (i m : ℕ) (l : BoardAttached) → IsTidy w.star → attached i w.sites ≡ Some l → l.down ≡ [] → AcceptsAll ds l → reply_of (Fetch i m) w.star ≡ reply.Fetched (Ok ds)
+pub downs_lead : (ds : List BoardDown) (w : BoardWorld) (i m : ℕ) (l : BoardAttached) → stars.IsTidy w.star → attached i w.sites ≡ Some l → l.down ≡ [] → AcceptsAll ds l → reply_of (Fetch i m) w.star ≡ reply.Fetched (Ok ds)
     → Leads w (deliveries i ds) i (star_after (Fetch i m) w.star) (all_delivered ds l) []
-downs_lead [] w i m l tidy is idle fine replied = subst (λ (s : BoardStar). Leads w [] i s l []) (sym (fetch_nothing w.star i m tidy replied)) (leads_none w i l is)
+downs_lead [] w i m l tidy is idle fine replied = subst (λ (s : BoardStar). Leads w [] i s l []) (sym (stars.fetch_nothing w.star i m tidy replied)) (leads_none w i l is)
 downs_lead (d ∷ ds) w i m l tidy is idle fine replied =
-    let p = fetch_in_parts w.star i m d ds replied in
+    let p = stars.fetch_in_parts w.star i m d ds replied in
     let one = down_leads w i d p.rest l p.link is p.is idle p.waits fine.0 in
     let w' = after w (event.Down i ∷ []) in
     let next : reply_of (Fetch i p.others) w'.star ≡ reply.Fetched (Ok ds) = ap (λ (s : BoardStar). reply_of (Fetch i p.others) s) one.star ∙ p.next in
-    let tidy' : IsTidy w'.star = subst IsTidy (p.first ∙ sym one.star) (tidy_after (Fetch i 1) w.star tidy) in
+    let tidy' : stars.IsTidy w'.star = subst stars.IsTidy (p.first ∙ sym one.star) (stars.tidy_after (Fetch i 1) w.star tidy) in
     let same : star_after (Fetch i p.others) w'.star ≡ star_after (Fetch i m) w.star = ap (λ (s : BoardStar). star_after (Fetch i p.others) s) one.star ∙ p.same in
     subst (λ (s : BoardStar). Leads w (deliveries i (d ∷ ds)) i s (all_delivered (d ∷ ds) l) []) same
     (leads_append one (downs_lead ds w' i p.others (delivered d l) tidy' one.here (delivered_down d l ∙ idle) fine.1 next))
@@ -201,14 +201,14 @@ record Called (w : BoardWorld) (i : ℕ) (log : List Step) (end : BoardAttached)
   played : IsPlayed link (past_call log) end
   calls : calls_of i (past_call log) ≡ later
 
-called : (log : List Step) (w : BoardWorld) (i : ℕ) (l end : BoardAttached) (m : Made) (later : List Made) → IsReached w → IsTidy w.star
+called : (log : List Step) (w : BoardWorld) (i : ℕ) (l end : BoardAttached) (m : Made) (later : List Made) → IsReached w → stars.IsTidy w.star
     → attached i w.sites ≡ Some l → l.down ≡ [] → IsPlayed l log end → calls_of i log ≡ m ∷ later → m.reply ≡ reply_of m.call w.star → Called w i log end m later
 called [] w i l end m later reached tidy is idle played calls legal = absurd cc
 called (Edited c r ∷ log) w i l end m later reached tidy is idle played calls legal =
     let k = linked w i l reached is in
     let one = edit_leads w i c l k.0 is k.1 in
     let w' = after w (event.Edit i c ∷ []) in
-    let more = called log w' i (edited c l) end m later (reached_more w (event.Edit i c ∷ []) reached) (subst IsTidy (sym one.star) tidy) one.here (edited_down c l ∙ idle) played.1 calls
+    let more = called log w' i (edited c l) end m later (reached_more w (event.Edit i c ∷ []) reached) (subst stars.IsTidy (sym one.star) tidy) one.here (edited_down c l ∙ idle) played.1 calls
     (legal ∙ ap (λ (s : BoardStar). reply_of m.call s) (sym one.star)) in
     record {
       link = more.link;
@@ -268,7 +268,7 @@ left (Got n ds ∷ log) w i l end reached is played calls = absurd cc
 -- sites that have joined, with the logs that are still to be played, and the history that is still to come
 pub record Tracks (n : ℕ) (w : BoardWorld) (h : List HubEvent) (here : ℕ → BoardAttached) (logs : ℕ → List Step) (ends : ℕ → BoardAttached) : Type 0 where
   pub reached : IsReached w
-  pub tidy : IsTidy w.star
+  pub tidy : stars.IsTidy w.star
   pub legal : IsLegal w.star h
   pub is : (i : ℕ) → IsSite n i → attached i w.sites ≡ Some (here i)
   pub idle : (i : ℕ) → IsSite n i → (here i).down ≡ []
@@ -352,7 +352,7 @@ next_tracks n w e h here logs ends t c =
     let i = site_of e.call in
     let w' = after w (through_call i (logs i)) in record {
       reached = reached_more w (through_call i (logs i)) t.reached;
-      tidy = subst IsTidy (sym c.leads.star) (tidy_after e.call w.star t.tidy);
+      tidy = subst stars.IsTidy (sym c.leads.star) (stars.tidy_after e.call w.star t.tidy);
       legal = subst (λ (s : BoardStar). IsLegal s h) (sym c.leads.star) t.legal.1;
       is = λ j site. at_each (λ l (q : ℕ). attached j w'.sites ≡ Some l) i j c.link 0 here (λ k. 0) (λ e. ap (λ k. attached k w'.sites) e ∙ c.leads.here) (λ ne. c.leads.others j ne ∙ t.is j site);
       idle = λ j site. at_each (λ l (q : ℕ). l.down ≡ []) i j c.link 0 here (λ k. 0) (λ e. c.idle) (λ ne. t.idle j site);

@@ -4,9 +4,8 @@ use Rattle.jup_app.specs.Prelude.{EditFault, BoardBatch, Commands, board_batches
 use Rattle.jup_star.specs.declared.calls.StarReply.TheVariants.{Taken}
 use Rattle.jup_star.specs.declared.messages.Down.TheVariants as down
 use Rattle.jup_star.specs.declared.messages.Up.TheVariants as up
-use Rattle.jup_star.specs.Sites.{received, sent_back, after_fault, DeliverAnswers, made_result, after_edit, deliver_result}
 use Rattle.jup_star.specs.Stars.{is_of, link_fetched, opened_link, link_heard, link_sent, link_acked, link_ponged, operation_at, link_of, without, at_link, join_fault, joined, up_fault, take_fault, taken, left, fetched, IsNew, AreApart, BoardStar, BoardLink, joining, join_result, after_join, take_result, after_take, fetch_result, after_fetch, after_leave, reply_of, star_after}
-use Rattle.jup_star.specs.Sites as site
+use Rattle.jup_star.specs.Sites as star_sites
 use Rattle.jup_star.proofs.LinkChanges.{apart_map, apart_without}
 use Rattle.jup_app.specs.Runs.{BoardUp, BoardDown, Step, Edited, Took, Got, edit_by, edited, delivered, all_delivered, IsAccepted, IsPlayed, link_with}
 
@@ -15,36 +14,36 @@ use Rattle.jup_app.specs.Runs.{BoardUp, BoardDown, Step, Edited, Took, Got, edit
 -- a message that was not refused
 pub record Hands (d : BoardDown) (s t : BoardSite) (owed : Option BoardUp) : Type 0 where
   pub fine : deliver_fault board_batches d s ≡ None
-  pub site : t ≡ received board_batches d s
-  pub back : owed ≡ sent_back board_batches d s
+  pub site : t ≡ star_sites.received board_batches d s
+  pub back : owed ≡ star_sites.sent_back board_batches d s
 
-pub deliver_gives : (d : BoardDown) (s t : BoardSite) (owed : Option BoardUp) → DeliverAnswers d s t (Ok owed) → Hands d s t owed
+pub deliver_gives : (d : BoardDown) (s t : BoardSite) (owed : Option BoardUp) → star_sites.DeliverAnswers d s t (Ok owed) → Hands d s t owed
 deliver_gives d s t owed a = go (deliver_fault board_batches d s) refl a.0 a.1
   where
-    go : (o : Option SiteFault) → deliver_fault board_batches d s ≡ o → Ok owed ≡ deliver_result d s o → t ≡ after_fault board_batches d s o → Hands d s t owed
+    go : (o : Option SiteFault) → deliver_fault board_batches d s ≡ o → Ok owed ≡ star_sites.deliver_result d s o → t ≡ star_sites.after_fault board_batches d s o → Hands d s t owed
     go None e f g = record { fine = e; site = g; back = cc }
     go (Some x) e f g = absurd cc
 
-pub handed_accepted : (d : BoardDown) (s t : BoardSite) (owed : Option BoardUp) (r : Result (Option BoardUp) SiteFault) (up : List BoardUp) → DeliverAnswers d s t r → r ≡ Ok owed → IsAccepted d (link_with s up)
-handed_accepted d s t owed r up a is = (deliver_gives d s t owed (subst (λ r. DeliverAnswers d s t r) is a)).fine
+pub handed_accepted : (d : BoardDown) (s t : BoardSite) (owed : Option BoardUp) (r : Result (Option BoardUp) SiteFault) (up : List BoardUp) → star_sites.DeliverAnswers d s t r → r ≡ Ok owed → IsAccepted d (link_with s up)
+handed_accepted d s t owed r up a is = (deliver_gives d s t owed (subst (λ r. star_sites.DeliverAnswers d s t r) is a)).fine
 
-pub handed_link : (d : BoardDown) (s t : BoardSite) (owed : Option BoardUp) (r : Result (Option BoardUp) SiteFault) (up : List BoardUp) → DeliverAnswers d s t r → r ≡ Ok owed
+pub handed_link : (d : BoardDown) (s t : BoardSite) (owed : Option BoardUp) (r : Result (Option BoardUp) SiteFault) (up : List BoardUp) → star_sites.DeliverAnswers d s t r → r ≡ Ok owed
     → delivered d (link_with s up) ≡ link_with t (up ++ option_to_list owed)
 handed_link d s t owed r up a is =
-    let h = deliver_gives d s t owed (subst (λ r. DeliverAnswers d s t r) is a) in
-    ap (λ (x : BoardSite). link_with x (up ++ option_to_list (sent_back board_batches d s))) (sym h.site) ∙ ap (λ (o : Option BoardUp). link_with t (up ++ option_to_list o)) (sym h.back)
+    let h = deliver_gives d s t owed (subst (λ r. star_sites.DeliverAnswers d s t r) is a) in
+    ap (λ (x : BoardSite). link_with x (up ++ option_to_list (star_sites.sent_back board_batches d s))) (sym h.site) ∙ ap (λ (o : Option BoardUp). link_with t (up ++ option_to_list o)) (sym h.back)
 
 -- an edit that was made
 pub record Makes (c : Commands) (s t : BoardSite) (m : Made) : Type 0 where
   pub op : BoardBatch
   pub is : edit_answer board_batches c s ≡ Ok op
   pub made : m ≡ made_by op s
-  pub site : t ≡ site.edited board_batches op s
+  pub site : t ≡ star_sites.edited board_batches op s
 
 pub edit_gives : (c : Commands) (s t : BoardSite) (m : Made) → EditAnswers c s t (Ok m) → Makes c s t m
 edit_gives c s t m a = go (edit_answer board_batches c s) refl a.0 a.1
   where
-    go : (r : Result BoardBatch EditFault) → edit_answer board_batches c s ≡ r → Ok m ≡ made_result s r → t ≡ after_edit s r → Makes c s t m
+    go : (r : Result BoardBatch EditFault) → edit_answer board_batches c s ≡ r → Ok m ≡ star_sites.made_result s r → t ≡ star_sites.after_edit s r → Makes c s t m
     go (Ok op) e f g = record { op = op; is = e; made = cc; site = g }
     go (Err n) e f g = absurd cc
 
@@ -54,7 +53,7 @@ edit_refused c s t f not a =
     let both = rw not at a in
     go (edit_answer board_batches c s) refl both.0 both.1
   where
-    go : (r : Result BoardBatch EditFault) → edit_answer board_batches c s ≡ r → Err f ≡ made_result s r → t ≡ after_edit s r → (edit_answer board_batches c s ≡ Err f) × (t ≡ s)
+    go : (r : Result BoardBatch EditFault) → edit_answer board_batches c s ≡ r → Err f ≡ star_sites.made_result s r → t ≡ star_sites.after_edit s r → (edit_answer board_batches c s ≡ Err f) × (t ≡ s)
     go (Ok op) e h g = absurd cc
     go (Err n) e h g = (e ∙ (let same : n ≡ f = cc in ap (λ k. Err k) same), g)
 

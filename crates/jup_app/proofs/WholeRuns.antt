@@ -4,17 +4,17 @@ use Rattle.jup_app.specs.Prelude.{highest_limit, Command, EditFault, board_batch
 use Rattle.jup_star.specs.declared.calls.StarReply.TheVariants as reply
 use Rattle.jup_star.specs.declared.messages.Up.TheVariants as up
 use Rattle.jup_star.specs.Stars.{reply_of, star_after, BoardLink, take_fault, after_join, after_take, after_fetch, after_leave}
-use Rattle.jup_world.specs.Traces.{made as made_in_trace, edit_made, Promises}
+use Rattle.jup_world.specs.Traces as traces
 use Rattle.jup_world.specs.Boards.{IsBoardWorld, order_of}
-use Rattle.jup_world.specs.Worlds.{with_outcome, join_outcome, new_site, IsQuiet}
+use Rattle.jup_world.specs.Worlds as worlds
 use Rattle.jup_world.specs.Sound.{IsSound}
 use Rattle.jup_world.specs.Events as event
 use Rattle.jup_world.proofs.Worlds.{are_linked, reached_sound}
 use Rattle.jup_world.proofs.Sound.Runs.{sound-promises}
 use Rattle.jup_app.specs.Runs.{Made, made, joins, edits_at, makes, link_with, told_to, IsFresh, joined_call, Step, calls_of, edits_of, IsPlayed, site_of, made_at, IsSite, assembled, calls_at, no_site, BoardUp, EditAnswer, edit_at, IsRunOf, assembled_world, AllAgree, accepted}
 use Rattle.jup_app.proofs.Calls.{apart, IsKnown, total, known, each_append, each_both, each_weaker, made_since, only_one, none_first, all_of_one, each_tallied, each_made, Parted, made_at_is, sited, made_at_makes, made_at-append, calls_own, calls_of-append, played_both}
-use Rattle.jup_app.proofs.Simulate.{after, edits_at_last, Tracks, Ends, assembled_ends, run_append, reached_more}
-use Rattle.jup_app.proofs.Stars.{join_gives, IsTidy, tidy_through}
+use Rattle.jup_app.proofs.Simulate as simulate
+use Rattle.jup_app.proofs.Stars as stars
 use Rattle.jup_world.specs.Prelude.{join_fault, joined, BoardStar, joining, opened_star, link_of, taken, most_batches, found-end, found-end_other}
 use Rattle.jup_world.specs.declared.events.Reply.TheVariants as answer
 
@@ -22,19 +22,19 @@ use Rattle.jup_world.specs.declared.events.Reply.TheVariants as answer
 
 -- the world after a list of joins: each site has its number, and is as it opened
 pub record HasJoined (w : BoardWorld) (js : List BoardSite) (h : List HubEvent) : Type 0 where
-  pub star : (after w (joins (length js))).star ≡ star_through w.star h
-  pub sites : (k : ℕ) (d : BoardSite) → k < length js → attached (w.star.given + suc k) (after w (joins (length js))).sites ≡ Some (link_with (get_or js k d) [])
-  pub before : (i : ℕ) → i ≤ w.star.given → attached i (after w (joins (length js))).sites ≡ attached i w.sites
+  pub star : (simulate.after w (joins (length js))).star ≡ star_through w.star h
+  pub sites : (k : ℕ) (d : BoardSite) → k < length js → attached (w.star.given + suc k) (simulate.after w (joins (length js))).sites ≡ Some (link_with (get_or js k d) [])
+  pub before : (i : ℕ) → i ≤ w.star.given → attached i (simulate.after w (joins (length js))).sites ≡ attached i w.sites
   pub numbers : (k : ℕ) (d : BoardSite) → k < length js → (get_or js k d).number ≡ w.star.given + suc k
-  pub silent : (i : ℕ) → edits_at i (after w (joins (length js))).trace ≡ edits_at i w.trace
+  pub silent : (i : ℕ) → edits_at i (simulate.after w (joins (length js))).trace ≡ edits_at i w.trace
 
 -- the world after one join
 joined_world : BoardWorld → BoardWorld
-joined_world w = with_outcome board_batches w event.Join (join_outcome board_batches w None)
+joined_world w = worlds.with_outcome board_batches w event.Join (worlds.join_outcome board_batches w None)
 
 join_is : (w : BoardWorld) → join_fault w.star ≡ None → happens board_batches w event.Join ≡ joined_world w
 unfolding joined_world
-join_is w fine = ap (λ (o : Option StarFault). with_outcome board_batches w event.Join (join_outcome board_batches w o)) fine
+join_is w fine = ap (λ (o : Option StarFault). worlds.with_outcome board_batches w event.Join (worlds.join_outcome board_batches w o)) fine
 
 -- a site that got what the star gives is the one that the core opens
 site_is : (w : BoardWorld) (j : BoardSite) → IsFresh j → told_to j ≡ joining w.star → j ≡ opened_site (w.star.given + 1) w.star.limit w.star.board
@@ -47,12 +47,12 @@ IsClear w = (i : ℕ) → w.star.given < i → attached i w.sites ≡ None
 one_here : (w : BoardWorld) (j : BoardSite) → IsClear w → j ≡ opened_site (w.star.given + 1) w.star.limit w.star.board → attached (w.star.given + 1) (joined_world w).sites ≡ Some (link_with j [])
 unfolding joined_world
 one_here w j clear is =
-    found-end (λ (a : BoardAttached). a.site.number) (w.star.given + 1) w.sites (new_site board_batches w (w.star.given + 1)) (clear (w.star.given + 1) (omega arith)) (eq-eqb (w.star.given + 1) (w.star.given + 1) refl)
+    found-end (λ (a : BoardAttached). a.site.number) (w.star.given + 1) w.sites (worlds.new_site board_batches w (w.star.given + 1)) (clear (w.star.given + 1) (omega arith)) (eq-eqb (w.star.given + 1) (w.star.given + 1) refl)
     ∙ ap (λ (s : BoardSite). Some (link_with s [])) (sym is)
 
 one_other : (w : BoardWorld) (i : ℕ) → (w.star.given + 1 ≡ i → ⊥) → attached i (joined_world w).sites ≡ attached i w.sites
 unfolding joined_world
-one_other w i ne = found-end_other (λ (a : BoardAttached). a.site.number) i w.sites (new_site board_batches w (w.star.given + 1)) (apart (w.star.given + 1) i ne)
+one_other w i ne = found-end_other (λ (a : BoardAttached). a.site.number) i w.sites (worlds.new_site board_batches w (w.star.given + 1)) (apart (w.star.given + 1) i ne)
 
 still_clear : (w : BoardWorld) → IsClear w → IsClear (joined_world w)
 unfolding joined_world
@@ -64,7 +64,7 @@ grown w = refl
 
 quiet_join : (w : BoardWorld) (i : ℕ) → edits_at i (joined_world w).trace ≡ edits_at i w.trace
 unfolding joined_world
-quiet_join w i = edits_at_last i w.trace (record { event = event.Join; reply = (join_outcome board_batches w None).reply }) ∙ append-nil (edits_at i w.trace)
+quiet_join w i = simulate.edits_at_last i w.trace (record { event = event.Join; reply = (worlds.join_outcome board_batches w None).reply }) ∙ append-nil (edits_at i w.trace)
 
 number_at : (w : BoardWorld) (j : BoardSite) (js : List BoardSite) (g : ℕ) → g ≡ w.star.given + 1 → j.number ≡ w.star.given + 1
     → ((k : ℕ) (d : BoardSite) → k < length js → (get_or js k d).number ≡ g + suc k)
@@ -89,15 +89,15 @@ has_joined (j ∷ js) w (e ∷ h) are fresh clear legal =
     let this : ◌≡◌ {A = Made} (made e) (joined_call j) = cc in
     let call : e.call ≡ Join = ap (λ (m : Made). m.call) this in
     let replied : reply_of Join w.star ≡ reply.Joined (Ok (told_to j)) = ap (λ c. reply_of c w.star) (sym call) ∙ sym legal.0 ∙ ap (λ (m : Made). m.reply) this in
-    let next = join_gives w.star (told_to j) replied in
+    let next = stars.join_gives w.star (told_to j) replied in
     let opened = site_is w j fresh.0 next.1 in
     let v = joined_world w in
     let calls : makes h ≡ map joined_call js = cc in
     let moved : star_after e.call w.star ≡ v.star = ap (λ c. star_after c w.star) call ∙ next.2 ∙ sym (grown w) in
     let rest = has_joined js v h calls fresh.1 (still_clear w clear) (subst (λ (s : BoardStar). IsLegal s h) moved legal.1) in
     let grew : v.star.given ≡ w.star.given + 1 = ap (λ (s : BoardStar). s.given) (grown w) in
-    let last : BoardWorld = after v (joins (length js)) in
-    let same : after w (joins (length (j ∷ js))) ≡ last = ap (λ (x : BoardWorld). after x (joins (length js))) (join_is w next.0) in
+    let last : BoardWorld = simulate.after v (joins (length js)) in
+    let same : simulate.after w (joins (length (j ∷ js))) ≡ last = ap (λ (x : BoardWorld). simulate.after x (joins (length js))) (join_is w next.0) in
     let number : j.number ≡ w.star.given + 1 = ap (λ (s : BoardSite). s.number) opened in
     record {
       star = ap (λ (x : BoardWorld). x.star) same ∙ rest.star ∙ ap (λ (s : BoardStar). star_through s h) (sym moved);
@@ -259,17 +259,17 @@ module _ (board : Windows) (limit : ℕ) (opening : IsOpening board) (low : limi
   pub tracks : {js : List BoardSite} {hands : List Tally} {firsts drains : List HubEvent} {logs drained : ℕ → List Step} {mids ends : ℕ → BoardAttached}
       → (w : Whole (opened_star board limit) js hands firsts drains logs drained mids ends) (p : Parts (opened_star board limit) js hands w.known.history drains)
       → HasJoined (opened_world board_batches board limit) js p.joined
-      → Tracks (length js) (after (opened_world board_batches board limit) (joins (length js))) (p.between ++ p.rest) (first_link js) (both_logs logs drained) ends
+      → simulate.Tracks (length js) (simulate.after (opened_world board_batches board limit) (joins (length js))) (p.between ++ p.rest) (first_link js) (both_logs logs drained) ends
   tracks {js} {hands} {firsts} {drains} {logs} {drained} {mids} {ends} w p j =
       let n = length js in
       let first = opened_world board_batches board limit in
-      let tidy : IsTidy (opened_star board limit) = record { apart = tt; within = tt } in
+      let tidy : stars.IsTidy (opened_star board limit) = record { apart = tt; within = tt } in
       let q : Parted n (pass_of hands) p.between = parted w p.between p.by_hands p.hands_made in record {
-        reached = reached_more first (joins n) (opened_reached board limit opening low);
-        tidy = subst IsTidy (sym j.star) (tidy_through p.joined (opened_star board limit) tidy);
+        reached = simulate.reached_more first (joins n) (opened_reached board limit opening low);
+        tidy = subst stars.IsTidy (sym j.star) (stars.tidy_through p.joined (opened_star board limit) tidy);
         legal = subst (λ (s : BoardStar). IsLegal s (p.between ++ p.rest)) (sym j.star) ((legal_append (opened_star board limit) p.joined (p.between ++ p.rest) p.legal).1);
         is = λ i site. let at : 0 + suc (i - 1) ≡ i = omega arith in
-            subst (λ k. attached k (after first (joins n)).sites ≡ Some (link_with (get_or js (i - 1) no_site) [])) at (j.sites (i - 1) no_site (omega arith));
+            subst (λ k. attached k (simulate.after first (joins n)).sites ≡ Some (link_with (get_or js (i - 1) no_site) [])) at (j.sites (i - 1) no_site (omega arith));
         idle = λ i site. refl;
         played = λ i site. played_both (logs i) (drained i) (link_with (get_or js (i - 1) no_site) []) (mids i) (ends i) (w.own_played i no_site site) (w.drain_played i site);
         calls = λ i site.
@@ -286,14 +286,14 @@ module _ (board : Windows) (limit : ℕ) (opening : IsOpening board) (low : limi
       → (w : Whole (opened_star board limit) js hands firsts drains logs drained mids ends)
       → (p : Parts (opened_star board limit) js hands w.known.history drains)
       → HasJoined (opened_world board_batches board limit) js p.joined
-      → Ends (length js) (opened_world board_batches board limit) (joins (length js) ++ assembled (length js) (both_logs logs drained) (p.between ++ p.rest)) (star_through (opened_star board limit) (p.joined ++ (p.between ++ p.rest))) (both_logs logs drained) ends
+      → simulate.Ends (length js) (opened_world board_batches board limit) (joins (length js) ++ assembled (length js) (both_logs logs drained) (p.between ++ p.rest)) (star_through (opened_star board limit) (p.joined ++ (p.between ++ p.rest))) (both_logs logs drained) ends
   assembled_run {js} {hands} {firsts} {drains} {logs} {drained} {mids} {ends} w p j =
       let n = length js in
       let first = opened_world board_batches board limit in
-      let w1 = after first (joins n) in
+      let w1 = simulate.after first (joins n) in
       let es = assembled n (both_logs logs drained) (p.between ++ p.rest) in
-      let rest = assembled_ends (p.between ++ p.rest) n w1 (first_link js) (both_logs logs drained) ends (tracks w p j) in
-      let both = run_append (joins n) es first in
+      let rest = simulate.assembled_ends (p.between ++ p.rest) n w1 (first_link js) (both_logs logs drained) ends (tracks w p j) in
+      let both = simulate.run_append (joins n) es first in
       record {
         star = ap (λ (x : BoardWorld). x.star) both ∙ rest.star ∙ ap (λ (s : BoardStar). star_through s (p.between ++ p.rest)) j.star ∙ sym (star_through-append (opened_star board limit) p.joined (p.between ++ p.rest));
         sites = λ i site. ap (λ (x : BoardWorld). attached i x.sites) both ∙ rest.sites i site;
@@ -322,7 +322,7 @@ refused_one : (b : Bool) (c : Commands) (fault : EditFault) → [] ≡ made_of (
 refused_one true c fault = refl
 refused_one false c fault = refl
 
-made_there : (i : ℕ) (e : BoardEvent) (r : BoardReply) → edit_made i e r ≡ made_of (edit_at i e r)
+made_there : (i : ℕ) (e : BoardEvent) (r : BoardReply) → traces.edit_made i e r ≡ made_of (edit_at i e r)
 made_there i event.Join r = refl
 made_there i (event.Leave j) r = refl
 made_there i (event.Edit j c) (answer.Joined n) = refl
@@ -344,9 +344,9 @@ made_there i event.JoinStray r = refl
 made_there i (event.Stray j u) r = refl
 made_there i (event.LeaveStray j) r = refl
 
-made_is : (i : ℕ) (hs : List (Happened Commands BoardBatch BoardEdits EditFault)) → made_in_trace i hs ≡ made_of (edits_at i hs)
+made_is : (i : ℕ) (hs : List (Happened Commands BoardBatch BoardEdits EditFault)) → traces.made i hs ≡ made_of (edits_at i hs)
 made_is i [] = refl
-made_is i (h ∷ hs) = ap (λ es. es ++ made_in_trace i hs) (made_there i h.event h.reply) ∙ ap (λ es. made_of (edit_at i h.event h.reply) ++ es) (made_is i hs) ∙ sym (made_of-append (edit_at i h.event h.reply) (edits_at i hs))
+made_is i (h ∷ hs) = ap (λ es. es ++ traces.made i hs) (made_there i h.event h.reply) ∙ ap (λ es. made_of (edit_at i h.event h.reply) ++ es) (made_is i hs) ∙ sym (made_of-append (edit_at i h.event h.reply) (edits_at i hs))
 
 made_of-answers : (es : List (Commands × EditAnswer)) → made_of es ≡ accepted (map (λ (e : Commands × EditAnswer). e.1) es)
 made_of-answers [] = refl
@@ -426,7 +426,7 @@ one_of (x ∷ xs) some = x
 
 module _ (board : Windows) (limit n : ℕ) (scripts : List (List Command)) (star : BoardStar) (ends : List SiteEnd) (fit : IsOpening board) (low : limit ≤ highest_limit) (is : IsRunOf board limit n scripts star ends) where
   reached : IsReached (assembled_world board limit n is.logs is.later)
-  reached = reached_more (opened_world board_batches board limit) (joins n ++ assembled n is.logs is.later) (opened_reached board limit fit low)
+  reached = simulate.reached_more (opened_world board_batches board limit) (joins n ++ assembled n is.logs is.later) (opened_reached board limit fit low)
 
   kept : IsBoardWorld (assembled_world board limit n is.logs is.later)
   kept = reached_sound (assembled_world board limit n is.logs is.later) reached
@@ -434,7 +434,7 @@ module _ (board : Windows) (limit n : ℕ) (scripts : List (List Command)) (star
   sound : IsSound board_batches most_batches (assembled_world board limit n is.logs is.later)
   sound = kept.sound
 
-  promised : Promises board_batches (assembled_world board limit n is.logs is.later)
+  promised : traces.Promises board_batches (assembled_world board limit n is.logs is.later)
   promised = sound-promises board_batches batch_laws most_batches (assembled_world board limit n is.logs is.later) sound (are_linked board_batches batch_laws (assembled_world board limit n is.logs is.later) kept.strays)
 
   numbers : (OrderWithin n star) × (star.given ≤ n)
@@ -459,7 +459,7 @@ module _ (board : Windows) (limit n : ℕ) (scripts : List (List Command)) (star
   found : (k : ℕ) → k < n → (d : SiteEnd) × (attached (suc k) (assembled_world board limit n is.logs is.later).sites ≡ Some (link_with (get_or ends k d).site []))
   found k within = let d = one_of ends (omega (arith, within, is.count)) in (d, is.sites k d within)
 
-  quiet : IsQuiet board_batches (assembled_world board limit n is.logs is.later)
+  quiet : worlds.IsQuiet board_batches (assembled_world board limit n is.logs is.later)
   quiet i l a fl fa =
       let w : BoardWorld = assembled_world board limit n is.logs is.later in
       let site = is_one i a fa in

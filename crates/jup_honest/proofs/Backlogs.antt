@@ -10,7 +10,7 @@ use Rattle.jup_site.proofs.Stars.{inserts, next}
 use Rattle.jup_site.proofs.Items.{batch_none, layout_none}
 use Rattle.jup_honest.specs.Sites as sites
 use Rattle.jup_site.specs.Prelude as beside
-use Rattle.jup_honest.proofs.Steps.{legal-parts, CalledStar, call-grows, called-opened}
+use Rattle.jup_honest.proofs.Steps as steps
 use Rattle.jup_honest.proofs.Runs.{join_gives}
 
 -- If nothing comes before it was sent, a link that is reliable at the end was reliable at each moment.
@@ -102,7 +102,7 @@ pub record IsNamed (limit : ℕ) (s : BoardStar) : Type 0 where
   pub named : (i : ℕ) → s.given < i → beside.has_site i s.board ≡ false
   pub limit_is : s.limit ≡ limit
 
-module _ (board : honest.Windows) (limit : ℕ) (s : BoardStar) (h : CalledStar board s) (n : IsNamed limit s) where
+module _ (board : honest.Windows) (limit : ℕ) (s : BoardStar) (h : steps.CalledStar board s) (n : IsNamed limit s) where
   -- an edit of a link
   taken-named : (j : ℕ) (l : BoardLink) → beside.link_of j s.links ≡ Some l → (u : honest.Up honest.BoardBatch) → beside.up_fault honest.board_batches s l u ≡ None → IsNamed limit (taken honest.board_batches j u l s)
   taken-named j l fl (honest.UpOp m) none = record {
@@ -120,7 +120,7 @@ module _ (board : honest.Windows) (limit : ℕ) (s : BoardStar) (h : CalledStar 
   taken-named j l fl (honest.UpPing k) none = record { named = n.named; limit_is = n.limit_is }
 
 -- any call
-call-named : (board : honest.Windows) (limit : ℕ) (c : honest.Call) (s : BoardStar) → CalledStar board s → IsNamed limit s → IsNamed limit (star_after c s)
+call-named : (board : honest.Windows) (limit : ℕ) (c : honest.Call) (s : BoardStar) → steps.CalledStar board s → IsNamed limit s → IsNamed limit (star_after c s)
 unfolding star_after
 call-named board limit honest.Join s h n = go (beside.join_fault s)
   where
@@ -147,9 +147,9 @@ call-named board limit (honest.Leave j) s h n = go (beside.link_of j s.links)
     go None = n
     go (Some l) = record { named = n.named; limit_is = n.limit_is }
 
-through-named : (board : honest.Windows) (limit : ℕ) (es : List honest.HubEvent) (s : BoardStar) → CalledStar board s → IsNamed limit s → IsNamed limit (honest.star_through s es)
+through-named : (board : honest.Windows) (limit : ℕ) (es : List honest.HubEvent) (s : BoardStar) → steps.CalledStar board s → IsNamed limit s → IsNamed limit (honest.star_through s es)
 through-named board limit [] s h n = n
-through-named board limit (e ∷ es) s h n = through-named board limit es (star_after e.call s) (call-grows board e.call s h).called (call-named board limit e.call s h n)
+through-named board limit (e ∷ es) s h n = through-named board limit es (star_after e.call s) (steps.call-grows board e.call s h).called (call-named board limit e.call s h n)
 
 -- a join that was not refused
 not_refused : (s : BoardStar) (j : Joined) → honest.JoinedReply (Ok j) ≡ reply_of honest.Join s → beside.join_fault s ≡ None
@@ -178,9 +178,9 @@ opens_with s fault low high named = rw (within 1 beside.highest_limit s.limit lo
 pub run-opens : (y : sites.SiteRun) → sites.IsHonest y → 1 ≤ y.limit → site_open_fault y.answer.site y.answer.limit y.answer.board ≡ None
 run-opens y is low =
     let s : BoardStar = honest.star_through (sites.opening y) y.before in
-    let parts = legal-parts (sites.opening y) y.before _ is.legal in
+    let parts = steps.legal-parts (sites.opening y) y.before _ is.legal in
     let gives = join_gives s y.answer parts.1.0 in
-    let n : IsNamed y.limit s = through-named y.board y.limit y.before (sites.opening y) (called-opened y.keeps y.board y.limit is.opens is.limited)
+    let n : IsNamed y.limit s = through-named y.board y.limit y.before (sites.opening y) (steps.called-opened y.keeps y.board y.limit is.opens is.limited)
     (record { named = λ i above. layout_none i y.board (omega (arith, above)) is.opens.unsigned; limit_is = refl }) in
     subst (λ (j : Joined). site_open_fault j.site j.limit j.board ≡ None) (sym gives.0)
     (opens_with s (not_refused s y.answer parts.1.0) (omega (arith, low, n.limit_is)) (let high = is.limited in omega (arith, high, n.limit_is)) (n.named (s.given + 1) (omega arith)))

@@ -7,7 +7,7 @@ use Rattle.jup_honest.specs.Sites as sites
 use Rattle.jup_honest.proofs.Steps.{legal-parts}
 use Rattle.jup_honest.proofs.Runs as runs
 use Rattle.jup_honest.proofs.Relies.{next-taken, star-through}
-use Rattle.jup_site.specs.Moments.{Moment, Moves, Joins, Leaves, Fetches, FetchesOwn, Takes, TakesOwn}
+use Rattle.jup_site.specs.Moments as moments
 use Rattle.jup_site.proofs.Beside.{IsLeave, moves-remain}
 use Rattle.jup_site.proofs.Later.{runs-later}
 
@@ -59,7 +59,7 @@ run-order y ms is =
 -- A site's link goes by a call to leave for it, or by a full order, and by nothing else.
 
 module _ (board : honest.Windows) (a : sites.Connection) (h : runs.Stands board a) (l : BoardLink) (fl : sites.IsAttached a l) where
-  abbrev m : Moment honest.board_batches
+  abbrev m : moments.Moment honest.board_batches
   m = runs.moment a h.link h.up
 
   -- the site has a link in a star
@@ -67,7 +67,7 @@ module _ (board : honest.Windows) (a : sites.Connection) (h : runs.Stands board 
   Has t = (k : BoardLink) × (link_of a.number t.links ≡ Some k)
 
   -- after a move that is no leave of it
-  remains : (n : Moment honest.board_batches) (move : Moves honest.board_batches a.number m n) → (IsLeave honest.board_batches honest.batch_laws most_batches (honest.content board) a.since a.number move → ⊥) → Has n.star
+  remains : (n : moments.Moment honest.board_batches) (move : moments.Moves honest.board_batches a.number m n) → (IsLeave honest.board_batches honest.batch_laws most_batches (honest.content board) a.since a.number move → ⊥) → Has n.star
   remains n move stays = elim (moves-remain honest.board_batches honest.batch_laws most_batches (honest.content board) a.since a.number m n move h.beside (runs.linked board a h l fl)) [
     | inl leave ↦ absurd (stays leave)
     | inr has ↦ (n.link, has)
@@ -97,7 +97,7 @@ module _ (board : honest.Windows) (a : sites.Connection) (h : runs.Stands board 
 
       at : (u : honest.Up honest.BoardBatch) (o : Option honest.StarFault) → up_fault honest.board_batches a.star h.link u ≡ o → h.up ≡ u ∷ us → sites.IsTakenUnlessFull a.star u (honest.Taken (take_result a.star u o))
           → (honest.Taken (take_result a.star u o) ≡ honest.Taken (Err honest.LogFull)) ⊎ Has (after_take a.number u a.star (Some h.link) o)
-      at u None none waits well = inr (remains _ (TakesOwn u us waits has none) (λ x. x))
+      at u None none waits well = inr (remains _ (moments.TakesOwn u us waits has none) (λ x. x))
       at u (Some fault) is waits well = inl (refused u fault well)
 
   -- any call
@@ -106,7 +106,7 @@ module _ (board : honest.Windows) (a : sites.Connection) (h : runs.Stands board 
   call-remains honest.Join b = inr (go (join_fault a.star))
     where
       go : (o : Option honest.StarFault) → Has (after_join a.star o)
-      go None = remains _ Joins (λ x. x)
+      go None = remains _ moments.Joins (λ x. x)
       go (Some e) = (l, fl)
   call-remains (honest.Take j u) b = cases (nat_eq j a.number) refl b
     where
@@ -114,8 +114,8 @@ module _ (board : honest.Windows) (a : sites.Connection) (h : runs.Stands board 
       other apart = go (link_of j a.star.links) refl
         where
           at : (k : BoardLink) → link_of j a.star.links ≡ Some k → (o : Option honest.StarFault) → up_fault honest.board_batches a.star k u ≡ o → Has (after_take j u a.star (Some k) o)
-          at k fk None none = remains _ (Takes j apart k fk u none) (λ x. x)
-          at k fk (Some e) is = remains _ (Leaves j) (λ x. let same = eq-eqb j a.number x in absurd (cc))
+          at k fk None none = remains _ (moments.Takes j apart k fk u none) (λ x. x)
+          at k fk (Some e) is = remains _ (moments.Leaves j) (λ x. let same = eq-eqb j a.number x in absurd (cc))
 
           go : (o : Option BoardLink) → link_of j a.star.links ≡ o → Has (after_take j u a.star o (take_fault honest.board_batches a.star u o))
           go None e = (l, fl)
@@ -128,8 +128,8 @@ module _ (board : honest.Windows) (a : sites.Connection) (h : runs.Stands board 
   call-remains (honest.Fetch j max) b = inr (cases (nat_eq j a.number) refl)
     where
       at : (t : Bool) → nat_eq j a.number ≡ t → (k : BoardLink) → link_of j a.star.links ≡ Some k → Has (after_fetch j max a.star (Some k))
-      at true e k fk = rw (eqb-true j a.number e) (remains _ (FetchesOwn max (runs.linked board a h l fl)) (λ x. x))
-      at false e k fk = remains _ (Fetches j max e) (λ x. x)
+      at true e k fk = rw (eqb-true j a.number e) (remains _ (moments.FetchesOwn max (runs.linked board a h l fl)) (λ x. x))
+      at false e k fk = remains _ (moments.Fetches j max e) (λ x. x)
 
       cases : (t : Bool) → nat_eq j a.number ≡ t → Has (after_fetch j max a.star (link_of j a.star.links))
       cases t e = go (link_of j a.star.links) refl
@@ -145,7 +145,7 @@ module _ (board : honest.Windows) (a : sites.Connection) (h : runs.Stands board 
         where
           go : (o : Option BoardLink) → Has (after_leave j a.star o)
           go None = (l, fl)
-          go (Some k) = remains _ (Leaves j) (λ x. let same = eq-eqb j a.number x in absurd (cc))
+          go (Some k) = remains _ (moments.Leaves j) (λ x. let same = eq-eqb j a.number x in absurd (cc))
 
 -- so over a run
 pub run-remains : (y : sites.SiteRun) (e : honest.HubEvent) → sites.IsHonest (sites.longer y (sites.Called e ∷ [])) → (l : BoardLink) → sites.IsAttached (sites.now y) l → sites.Remains (sites.now y) e

@@ -4,13 +4,13 @@ use Rattle.std.proofs.lemmas.List.{drop-append-le}
 use Rattle.std.proofs.Math.Seq.{drop-append_seam}
 use Rattle.jup_honest.specs.Prelude as honest
 use Rattle.jup_star.specs.Stars.{take_fault, BoardLink, join_result, after_join, after_take, after_fetch, after_leave, fetch_result, reply_of, star_after}
-use Rattle.jup_star.specs.Sites.{after_fault, made_result, after_edit, deliver_result}
+use Rattle.jup_star.specs.Sites as star_sites
 use Rattle.jup_site.specs.Sound.{edits_sent}
 use Rattle.jup_site.specs.Sites.{with_fetched}
 use Rattle.jup_site.proofs.Known.{edits_sent-append}
 use Rattle.jup_honest.specs.Sites as sites
-use Rattle.jup_honest.proofs.Steps.{called-opened, called-through, legal-parts}
-use Rattle.jup_site.specs.Moments.{Moment, Moves, Edits, Asks, Hands, Joins, Leaves, Fetches, FetchesOwn, Takes, TakesOwn, Runs, Stays, Then, IsCalled, IsBeside}
+use Rattle.jup_honest.proofs.Steps as steps
+use Rattle.jup_site.specs.Moments as moments
 use Rattle.jup_site.proofs.Beside as beside_star
 use Rattle.jup_site.specs.Prelude.{Link, owes, end_after, link_of, join_fault, joined, up_fault, most_batches, BoardStar, joining, opened_link, link_fetched, fetched, edit_answer, deliver_fault, sent_back, ups-append}
 
@@ -51,7 +51,7 @@ made-more us vs = ap (edits_sent honest.board_batches) (ups-append us vs) ∙ ed
 -- # A connection at one moment
 
 -- as a moment of the site, with the link and with what of the site's messages is on its way by it
-abbrev pub moment : sites.Connection → BoardLink → List (honest.Up honest.BoardBatch) → Moment honest.board_batches
+abbrev pub moment : sites.Connection → BoardLink → List (honest.Up honest.BoardBatch) → moments.Moment honest.board_batches
 moment a l us = record { star = a.star; link = l; mine = sites.made a; shown = sites.edits_among a.handed; at = record { site = a.site; up = us; down = drop (length a.handed) a.fetched } }
 
 -- if the star has the link, these messages were sent and not brought yet
@@ -60,7 +60,7 @@ Rises a us = (l : BoardLink) → link_of a.number a.star.links ≡ Some l → dr
 
 module _ (board : honest.Windows) where
   abbrev pub Beside : sites.Connection → BoardLink → List (honest.Up honest.BoardBatch) → Type 0
-  Beside a l us = IsBeside honest.board_batches most_batches (honest.content board) a.since a.number (moment a l us)
+  Beside a l us = moments.IsBeside honest.board_batches most_batches (honest.content board) a.since a.number (moment a l us)
 
   -- the site is beside the star
   pub record Stands (a : sites.Connection) : Type 0 where
@@ -73,18 +73,18 @@ module _ (board : honest.Windows) where
   pub record Goes (a : sites.Connection) (h : Stands a) (b : sites.Connection) : Type 0 where
     pub link : BoardLink
     pub up : List (honest.Up honest.BoardBatch)
-    pub next : Moment honest.board_batches
+    pub next : moments.Moment honest.board_batches
     pub is : next ≡ moment b link up
-    pub move : Moves honest.board_batches a.number (moment a h.link h.up) next ⊎ (moment a h.link h.up ≡ next)
+    pub move : moments.Moves honest.board_batches a.number (moment a h.link h.up) next ⊎ (moment a h.link h.up ≡ next)
     pub rises : Rises b up
 
   unfoldable pub goes-stands : (a b : sites.Connection) (h : Stands a) → b.number ≡ a.number → b.since ≡ a.since → Goes a h b → Stands b
   goes-stands a b h number since g = record {
     link = g.link;
     up = g.up;
-    beside = rw (number, since) (subst (IsBeside honest.board_batches most_batches (honest.content board) a.since a.number) g.is (elim g.move [
+    beside = rw (number, since) (subst (moments.IsBeside honest.board_batches most_batches (honest.content board) a.since a.number) g.is (elim g.move [
       | inl move ↦ beside_star.moves-beside honest.board_batches honest.batch_laws most_batches (honest.content board) a.since a.number (moment a h.link h.up) g.next move h.beside
-      | inr same ↦ subst (IsBeside honest.board_batches most_batches (honest.content board) a.since a.number) same h.beside
+      | inr same ↦ subst (moments.IsBeside honest.board_batches most_batches (honest.content board) a.since a.number) same h.beside
     ]));
     rises = g.rises;
   }
@@ -94,7 +94,7 @@ module _ (board : honest.Windows) where
   linked a h l fl = beside_star.linked-by honest.board_batches honest.batch_laws most_batches (honest.content board) a.since a.number (moment a h.link h.up) h.beside l fl
 
   module _ (a : sites.Connection) (h : Stands a) (f : sites.IsReliable a) where
-    abbrev m : Moment honest.board_batches
+    abbrev m : moments.Moment honest.board_batches
     m = moment a h.link h.up
 
     -- nothing changes
@@ -102,7 +102,7 @@ module _ (board : honest.Windows) where
     same_goes = record { link = h.link; up = h.up; next = m; is = refl; move = inr refl; rises = h.rises }
 
     -- the star alone changes, and the site's end of what it sent
-    star_goes : (n : Moment honest.board_batches) → Moves honest.board_batches a.number m n → n ≡ moment (record a { star = n.star }) n.link h.up → Goes a h (record a { star = n.star })
+    star_goes : (n : moments.Moment honest.board_batches) → moments.Moves honest.board_batches a.number m n → n ≡ moment (record a { star = n.star }) n.link h.up → Goes a h (record a { star = n.star })
     star_goes n move is = record {
       link = n.link;
       up = h.up;
@@ -115,18 +115,18 @@ module _ (board : honest.Windows) where
     -- # The site's steps
 
     -- it sends more
-    sends : (site : _) (us : List (honest.Up honest.BoardBatch)) (n : Moment honest.board_batches) → Moves honest.board_batches a.number m n → n ≡ moment (record a { site = site; sent = a.sent ++ us }) h.link (h.up ++ us) → Goes a h (record a { site = site; sent = a.sent ++ us })
+    sends : (site : _) (us : List (honest.Up honest.BoardBatch)) (n : moments.Moment honest.board_batches) → moments.Moves honest.board_batches a.number m n → n ≡ moment (record a { site = site; sent = a.sent ++ us }) h.link (h.up ++ us) → Goes a h (record a { site = site; sent = a.sent ++ us })
     sends site us n move is = record { link = h.link; up = h.up ++ us; next = n; is = is; move = inl move; rises = λ l fl. left_more a.sent a.taken us f.up ∙ ap (λ vs. vs ++ us) (h.rises l fl) }
 
     edit_goes : (commands : honest.Commands) → Goes a h (sites.after (sites.Edit commands) a)
     edit_goes commands =
         honest.result_cases (edit_answer honest.board_batches commands a.site)
-        (λ r. Goes a h (record a { site = after_edit a.site r; sent = a.sent ++ sites.sent_as_made (made_result a.site r) }))
-        (λ op ok. let more = made-more a.sent (honest.UpOp (honest.next_message a.site.end op) ∷ []) in sends _ (honest.UpOp (honest.next_message a.site.end op) ∷ []) _ (Edits commands op ok) (cc))
+        (λ r. Goes a h (record a { site = star_sites.after_edit a.site r; sent = a.sent ++ sites.sent_as_made (star_sites.made_result a.site r) }))
+        (λ op ok. let more = made-more a.sent (honest.UpOp (honest.next_message a.site.end op) ∷ []) in sends _ (honest.UpOp (honest.next_message a.site.end op) ∷ []) _ (moments.Edits commands op ok) (cc))
         (λ n e. subst (λ us. Goes a h (record a { sent = us })) (sym (append-nil a.sent)) same_goes)
 
     ping_goes : (k : ℕ) → Goes a h (sites.after (sites.Ping k) a)
-    ping_goes k = let more = made-more a.sent (honest.UpPing k ∷ []) ∙ append-nil (sites.made a) in sends a.site (honest.UpPing k ∷ []) _ (Asks k) (cc)
+    ping_goes k = let more = made-more a.sent (honest.UpPing k ∷ []) ∙ append-nil (sites.made a) in sends a.site (honest.UpPing k ∷ []) _ (moments.Asks k) (cc)
 
     -- the next message to it is accepted
     pub next-accepted : (d : honest.Down honest.BoardBatch) (rest : List (honest.Down honest.BoardBatch)) → a.fetched ≡ a.handed ++ d ∷ rest → deliver_fault honest.board_batches d a.site ≡ None
@@ -134,7 +134,7 @@ module _ (board : honest.Windows) where
 
     hand_goes : (d : honest.Down honest.BoardBatch) → sites.IsReliable (sites.after (sites.Deliver d) a) → Goes a h (sites.after (sites.Deliver d) a)
     hand_goes d g =
-        subst (λ o. Goes a h (record a { site = after_fault honest.board_batches d a.site o; sent = a.sent ++ sites.sent_as_handed (deliver_result d a.site o); handed = a.handed ++ d ∷ [] }))
+        subst (λ o. Goes a h (record a { site = star_sites.after_fault honest.board_batches d a.site o; sent = a.sent ++ sites.sent_as_handed (star_sites.deliver_result d a.site o); handed = a.handed ++ d ∷ [] }))
         (sym (next-accepted d g.down.0 next)) (record {
           link = h.link;
           up = h.up ++ option_to_list (sent_back honest.board_batches d a.site);
@@ -142,7 +142,7 @@ module _ (board : honest.Windows) where
           is = let more = made-more a.sent (option_to_list (sent_back honest.board_batches d a.site)) ∙ ap (λ es. sites.made a ++ es) (no_edit d) ∙ append-nil (sites.made a) in
               let among = edits_among-end a.handed d in
               let rest = left_of a.fetched (a.handed ++ d ∷ []) g.down.0 g.down.1 in cc;
-          move = inl (Hands d g.down.0 (left_of a.fetched a.handed (d ∷ g.down.0) next));
+          move = inl (moments.Hands d g.down.0 (left_of a.fetched a.handed (d ∷ g.down.0) next));
           rises = λ l fl. left_more a.sent a.taken (option_to_list (sent_back honest.board_batches d a.site)) f.up ∙ ap (λ vs. vs ++ option_to_list (sent_back honest.board_batches d a.site)) (h.rises l fl);
         })
       where
@@ -165,7 +165,7 @@ module _ (board : honest.Windows) where
     join_goes = go (join_fault a.star)
       where
         go : (o : Option honest.StarFault) → Goes a h (record a { star = after_join a.star o })
-        go None = star_goes _ Joins refl
+        go None = star_goes _ moments.Joins refl
         go (Some e) = same_goes
 
     leave_goes : (j : ℕ) → Goes a h (record a { star = after_leave j a.star (link_of j a.star.links) })
@@ -173,14 +173,14 @@ module _ (board : honest.Windows) where
       where
         go : (o : Option BoardLink) → Goes a h (record a { star = after_leave j a.star o })
         go None = same_goes
-        go (Some l) = star_goes _ (Leaves j) refl
+        go (Some l) = star_goes _ (moments.Leaves j) refl
 
     fetch_goes : (j max : ℕ) → Goes a h (record a { star = after_fetch j max a.star (link_of j a.star.links); fetched = sites.fetched_with a.number (honest.Fetch j max) (honest.Fetched (fetch_result max (link_of j a.star.links))) a.fetched })
     fetch_goes j max = cases (nat_eq j a.number) refl
       where
         other : nat_eq j a.number ≡ false → (o : Option BoardLink) → Goes a h (record a { star = after_fetch j max a.star o })
         other apart None = same_goes
-        other apart (Some l) = star_goes _ (Fetches j max apart) refl
+        other apart (Some l) = star_goes _ (moments.Fetches j max apart) refl
 
         own : (o : Option BoardLink) → link_of a.number a.star.links ≡ o → Goes a h (record a { star = after_fetch a.number max a.star o; fetched = a.fetched ++ sites.fetched_in (honest.Fetched (fetch_result max o)) })
         own None gone = subst (λ ds. Goes a h (record a { fetched = ds })) (sym (append-nil a.fetched)) same_goes
@@ -192,7 +192,7 @@ module _ (board : honest.Windows) where
               up = h.up;
               next = record m { star = fetched a.number max a.star; link = link_fetched max h.link; at = with_fetched honest.board_batches max h.link m.at };
               is = cc;
-              move = inl (FetchesOwn max fo);
+              move = inl (moments.FetchesOwn max fo);
               rises = λ k fk. h.rises l fl;
             }
 
@@ -209,8 +209,8 @@ module _ (board : honest.Windows) where
       where
         -- of another
         other_at : nat_eq j a.number ≡ false → (l : BoardLink) → link_of j a.star.links ≡ Some l → (o : Option honest.StarFault) → up_fault honest.board_batches a.star l u ≡ o → Goes a h (record a { star = after_take j u a.star (Some l) o })
-        other_at apart l fl None none = star_goes _ (Takes j apart l fl u none) refl
-        other_at apart l fl (Some fault) is = star_goes _ (Leaves j) refl
+        other_at apart l fl None none = star_goes _ (moments.Takes j apart l fl u none) refl
+        other_at apart l fl (Some fault) is = star_goes _ (moments.Leaves j) refl
 
         other : nat_eq j a.number ≡ false → (o : Option BoardLink) → link_of j a.star.links ≡ o → Goes a h (record a { star = after_take j u a.star o (take_fault honest.board_batches a.star u o) })
         other apart None gone = same_goes
@@ -225,7 +225,7 @@ module _ (board : honest.Windows) where
               up = drop 1 h.up;
               next = _;
               is = refl;
-              move = inl (TakesOwn u b.0 waits fl none);
+              move = inl (moments.TakesOwn u b.0 waits fl none);
               rises = λ l fk. left_of a.sent (a.taken ++ u ∷ []) b.0 b.1 ∙ sym (ap (drop 1) waits);
             }
         own_at fl b (Some fault) is = record {
@@ -233,7 +233,7 @@ module _ (board : honest.Windows) where
           up = h.up;
           next = _;
           is = refl;
-          move = inl (Leaves a.number);
+          move = inl (moments.Leaves a.number);
           rises = λ l fk. (let gone = honest.found-without (λ k. k.site) a.number a.star.links in absurd (cc));
         }
 
@@ -277,10 +277,10 @@ module _ (board : honest.Windows) where
     pub number : c.number ≡ a.number
     pub since : c.since ≡ a.since
     pub stands : Stands c
-    pub run : Runs honest.board_batches a.number (moment a h.link h.up) (moment c stands.link stands.up)
+    pub run : moments.Runs honest.board_batches a.number (moment a h.link h.up) (moment c stands.link stands.up)
 
   unfoldable pub reach-self : (a : sites.Connection) (h : Stands a) → Reaches a h a
-  reach-self a h = record { number = refl; since = refl; stands = h; run = Stays }
+  reach-self a h = record { number = refl; since = refl; stands = h; run = moments.Stays }
 
   unfoldable pub reach-step : (a b c : sites.Connection) (h : Stands a) (number : b.number ≡ a.number) (since : b.since ≡ a.since) (g : Goes a h b) → Reaches b (goes-stands a b h number since g) c → Reaches a h c
   unfolding goes-stands
@@ -289,10 +289,10 @@ module _ (board : honest.Windows) where
     since = r.since ∙ since;
     stands = r.stands;
     run =
-        let rest = subst (λ i. Runs honest.board_batches i (moment b g.link g.up) (moment c r.stands.link r.stands.up)) number r.run in
+        let rest = subst (λ i. moments.Runs honest.board_batches i (moment b g.link g.up) (moment c r.stands.link r.stands.up)) number r.run in
         elim g.move [
-          | inl move ↦ Then g.next move (subst (λ n. Runs honest.board_batches a.number n (moment c r.stands.link r.stands.up)) (sym g.is) rest)
-          | inr same ↦ subst (λ n. Runs honest.board_batches a.number n (moment c r.stands.link r.stands.up)) (sym (same ∙ g.is)) rest
+          | inl move ↦ moments.Then g.next move (subst (λ n. moments.Runs honest.board_batches a.number n (moment c r.stands.link r.stands.up)) (sym g.is) rest)
+          | inr same ↦ subst (λ n. moments.Runs honest.board_batches a.number n (moment c r.stands.link r.stands.up)) (sym (same ∙ g.is)) rest
         ];
   }
 
@@ -336,14 +336,14 @@ join_gives s j is = go (join_fault s) refl is
     go (Some x) e f = absurd cc
 
 -- the star before the join of a run
-pub before-called : (y : sites.SiteRun) → sites.IsHonest y → IsCalled honest.board_batches most_batches (honest.content y.board) (honest.star_through (sites.opening y) y.before)
-before-called y is = called-through y.board y.before (sites.opening y) (called-opened y.keeps y.board y.limit is.opens is.limited)
+pub before-called : (y : sites.SiteRun) → sites.IsHonest y → moments.IsCalled honest.board_batches most_batches (honest.content y.board) (honest.star_through (sites.opening y) y.before)
+before-called y is = steps.called-through y.board y.before (sites.opening y) (steps.called-opened y.keeps y.board y.limit is.opens is.limited)
 
 -- as the site joins
 pub start-stands : (y : sites.SiteRun) → sites.IsHonest y → Stands y.board (sites.start y)
 start-stands y is =
     let s : BoardStar = honest.star_through (sites.opening y) y.before in
-    let parts = legal-parts (sites.opening y) y.before _ is.legal in
+    let parts = steps.legal-parts (sites.opening y) y.before _ is.legal in
     let gives = join_gives s y.answer parts.1.0 in
     subst (λ j. Stands y.board (sites.new_connection s j)) (sym gives.0)
     (subst (λ t. Stands y.board (record (sites.new_connection s (joining s)) { star = t })) (sym gives.1)
@@ -351,7 +351,7 @@ start-stands y is =
 
 -- and at every later moment
 pub run-legal : (y : sites.SiteRun) → sites.IsHonest y → honest.IsLegal (sites.start y).star (sites.history y.steps)
-run-legal y is = (legal-parts (sites.opening y) y.before _ is.legal).1.1
+run-legal y is = (steps.legal-parts (sites.opening y) y.before _ is.legal).1.1
 
 pub run-reaches : (y : sites.SiteRun) (is : sites.IsHonest y) → Reaches y.board (sites.start y) (start-stands y is) (sites.now y)
 run-reaches y is = walk y.board y.steps (sites.start y) (start-stands y is) (run-legal y is) is.reliable

@@ -10,13 +10,13 @@ use Rattle.jup_star.specs.Stars.{star_open_fault}
 use Rattle.jup_star.proofs.Stars.{short_bare, distinct_bare}
 use Rattle.jup_lane.specs.Lanes.{messages, ups, downs as down_codec}
 use Rattle.jup_world.specs.declared.events.Reply.TheVariants.{Joined, NoJoin, Left, Detached, Nothing}
-use Rattle.jup_world.specs.Worlds.{one_taken, place_reply, one_handed, down_reply, AttachedOf, with_fetched, WorldOf, attached, only_fetched}
-use Rattle.jup_world.specs.Sound.{edit_reply, IsSound, KnowsStrays}
+use Rattle.jup_world.specs.Worlds as world_worlds
+use Rattle.jup_world.specs.Sound as soundness
 use Rattle.jup_world.specs.Boards.{BoardAttached, BoardLink, BoardReply}
 use Rattle.jup_world.specs.Happenings.{with_answer, Rises, IsRefused, refilled_from, refilled, fetched_for, refilled_star, handed_first, handed, reply_to, first_reply, FirstFits, FitsFirst, SparesAt, IsQuietAt}
 use Rattle.jup_world.specs.Traces.{IsTallied}
 use Rattle.jup_site.proofs.Numbers.{map_kept}
-use Rattle.jup_world.proofs.Answers.{take_taken, take_refused, take_wanted}
+use Rattle.jup_world.proofs.Answers as answers
 use Rattle.jup_world.proofs.Worlds.{open_held, strays-fetched}
 use Rattle.jup_world.proofs.Sound.Tallies.{tallied-fetched}
 use Rattle.jup_world.proofs.Sound.Runs.{sound-fetched, fall_fits}
@@ -65,10 +65,10 @@ waits_there (Some l) w e f = (l, refl)
 
 -- its message is taken, or refused
 pub plays_stray : (s t : stars.BoardStar) (o : Option BoardAttached) (j : ℕ) (up : Up BoardBatch) (l : BoardLink) (place : Option ℕ) (reply : BoardReply) → nat_eq j 1 ≡ false → stars.link_of j s.links ≡ Some l
-    → (stars.up_fault board_batches s l up ≡ None) × (place ≡ stars.place_taken board_batches s up) × (t ≡ stars.taken board_batches j up l s) → reply ≡ place_reply board_batches place → mix.MixPlays (stars.Stray j up) s o reply t o
+    → (stars.up_fault board_batches s l up ≡ None) × (place ≡ stars.place_taken board_batches s up) × (t ≡ stars.taken board_batches j up l s) → reply ≡ world_worlds.place_reply board_batches place → mix.MixPlays (stars.Stray j up) s o reply t o
 plays_stray s t o j up l place reply apart fl call is opening trace =
     stray_there (mix_of opening s o trace) j _ l apart fl ∙ ap (mix.stray_sends board_batches (mix_of opening s o trace) j l up) call.0
-    ∙ (λ i. record { reply = (ap (place_reply board_batches) (sym call.1) ∙ sym is) i; star = sym call.2 i; site = o })
+    ∙ (λ i. record { reply = (ap (world_worlds.place_reply board_batches) (sym call.1) ∙ sym is) i; star = sym call.2 i; site = o })
 
 pub plays_stray_refused : (s t : stars.BoardStar) (o : Option BoardAttached) (j : ℕ) (up : Up BoardBatch) (l : BoardLink) (fault refusal : stars.StarFault) → nat_eq j 1 ≡ false → stars.link_of j s.links ≡ Some l
     → (stars.up_fault board_batches s l up ≡ Some fault) × (t ≡ stars.left j s) → refusal ≡ fault → mix.MixPlays (stars.Stray j up) s o (Detached refusal) t o
@@ -90,12 +90,12 @@ module _ (s : stars.BoardStar) (a : Attached) (ready : mix.IsReady s (Some (star
   home_there opening trace f = ap (λ o. mix.at_home board_batches (mix_of opening s (Some (stars.bare_attached a)) trace) f o (Some (stars.bare_attached a))) fl
 
   -- it edits
-  edit_is : (m : mix.BoardMix) (b : BoardAttached) → m.site ≡ Some b → (r : Result BoardBatch stars.EditFault) → mix.home_edit board_batches m b r ≡ record { reply = edit_reply board_batches r; star = m.star; site = Some (with_answer r b) }
+  edit_is : (m : mix.BoardMix) (b : BoardAttached) → m.site ≡ Some b → (r : Result BoardBatch stars.EditFault) → mix.home_edit board_batches m b r ≡ record { reply = soundness.edit_reply board_batches r; star = m.star; site = Some (with_answer r b) }
   edit_is m b fa (Ok op) = refl
-  edit_is m b fa (Err n) = λ j. record { reply = edit_reply board_batches (Err n); star = m.star; site = fa j }
+  edit_is m b fa (Err n) = λ j. record { reply = soundness.edit_reply board_batches (Err n); star = m.star; site = fa j }
 
   pub edit_plays : (command : stars.Commands) (r : Result (Reply stars.BoardEdits stars.EditFault) NoMemory) (new : Attached)
-      → IfOk r (λ reply. reply ≡ edit_reply board_batches (stars.edit_answer board_batches command a.site))
+      → IfOk r (λ reply. reply ≡ soundness.edit_reply board_batches (stars.edit_answer board_batches command a.site))
       → OnOk r (stars.bare_attached new ≡ with_answer (stars.edit_answer board_batches command a.site) (stars.bare_attached a))
       → IfOk r (λ reply. mix.MixPlays (stars.HomeEdit command) s (Some (stars.bare_attached a)) reply s (Some (stars.bare_attached new)))
   edit_plays command (Ok reply) new is made = λ opening trace.
@@ -104,23 +104,23 @@ module _ (s : stars.BoardStar) (a : Attached) (ready : mix.IsReady s (Some (star
   edit_plays command (Err fault) new is made = tt
 
   -- the star takes its oldest message
-  pub up_plays : (t : stars.BoardStar) (reply : Reply stars.BoardEdits stars.EditFault) (new : Attached) → Rises a.site.number (messages ups a.up.way) s t reply → stars.bare_attached new ≡ one_taken board_batches (stars.bare_attached a)
+  pub up_plays : (t : stars.BoardStar) (reply : Reply stars.BoardEdits stars.EditFault) (new : Attached) → Rises a.site.number (messages ups a.up.way) s t reply → stars.bare_attached new ≡ world_worlds.one_taken board_batches (stars.bare_attached a)
       → mix.MixPlays stars.HomeUp s (Some (stars.bare_attached a)) reply t (Some (stars.bare_attached new))
   up_plays t reply new rises made opening trace = home_there opening trace _ ∙ cases (messages ups a.up.way) refl (subst (λ n. Rises n (messages ups a.up.way) s t reply) number rises)
     where
-      none_taken : (messages ups a.up.way) ≡ [] → stars.bare_attached a ≡ one_taken board_batches (stars.bare_attached a)
+      none_taken : (messages ups a.up.way) ≡ [] → stars.bare_attached a ≡ world_worlds.one_taken board_batches (stars.bare_attached a)
       none_taken empty = λ j. record { site = a.site; up = (empty ∙ sym (ap (λ (us : List (Up BoardBatch)). lib_drop us) empty)) j; down = messages down_codec a.down.way }
         where
           lib_drop : List (Up BoardBatch) → List (Up BoardBatch)
-          lib_drop us = (one_taken board_batches (record { site = a.site; up = us; down = messages down_codec a.down.way })).up
+          lib_drop us = (world_worlds.one_taken board_batches (record { site = a.site; up = us; down = messages down_codec a.down.way })).up
 
       cases : (us : List (Up BoardBatch)) → (messages ups a.up.way) ≡ us → Rises 1 us s t reply
           → mix.first_home_up board_batches (mix_of opening s (Some (stars.bare_attached a)) trace) (ready (stars.bare_attached a) refl).1.0 (stars.bare_attached a) us ≡ record { reply = reply; star = t; site = Some (stars.bare_attached new) }
       cases [] empty told = λ j. record { reply = sym told.0 j; star = sym told.1 j; site = Some ((none_taken empty ∙ sym made) j) }
       cases (up ∷ more) first told =
-          let call = take_taken 1 up s t (ready (stars.bare_attached a) refl).1.0 told.0 fl told.2 in
+          let call = answers.take_taken 1 up s t (ready (stars.bare_attached a) refl).1.0 told.0 fl told.2 in
           ap (mix.home_up board_batches (mix_of opening s (Some (stars.bare_attached a)) trace) (ready (stars.bare_attached a) refl).1.0 (stars.bare_attached a) up) call.0
-          ∙ (λ j. record { reply = (ap (place_reply board_batches) (sym call.1) ∙ sym told.1) j; star = sym call.2 j; site = Some (sym made j) })
+          ∙ (λ j. record { reply = (ap (world_worlds.place_reply board_batches) (sym call.1) ∙ sym told.1) j; star = sym call.2 j; site = Some (sym made j) })
 
   pub refused_plays : (t : stars.BoardStar) (fault refusal : stars.StarFault) → IsRefused a.site.number (messages ups a.up.way) s t fault → is_no_memory fault ≡ false → refusal ≡ fault → mix.MixPlays stars.HomeUp s (Some (stars.bare_attached a)) (Detached refusal) t None
   refused_plays t fault refusal refused other same opening trace = home_there opening trace _ ∙ cases (messages ups a.up.way) (subst (λ n. IsRefused n (messages ups a.up.way) s t fault) number refused)
@@ -129,7 +129,7 @@ module _ (s : stars.BoardStar) (a : Attached) (ready : mix.IsReady s (Some (star
           → mix.first_home_up board_batches (mix_of opening s (Some (stars.bare_attached a)) trace) (ready (stars.bare_attached a) refl).1.0 (stars.bare_attached a) us ≡ record { reply = Detached refusal; star = t; site = None }
       cases [] told = absurd told
       cases (up ∷ more) told =
-          let call = take_refused 1 up s t (ready (stars.bare_attached a) refl).1.0 fault other fl told in
+          let call = answers.take_refused 1 up s t (ready (stars.bare_attached a) refl).1.0 fault other fl told in
           ap (mix.home_up board_batches (mix_of opening s (Some (stars.bare_attached a)) trace) (ready (stars.bare_attached a) refl).1.0 (stars.bare_attached a) up) call.0
           ∙ (λ j. record { reply = Detached (sym same j); star = sym call.1 j; site = None })
 
@@ -138,7 +138,7 @@ module _ (s : stars.BoardStar) (a : Attached) (ready : mix.IsReady s (Some (star
     where
       cases : (us : List (Up BoardBatch)) → IsRefused a.site.number us s t fault → t ≡ s
       cases [] told = absurd told
-      cases (up ∷ more) told = take_wanted a.site.number up s t fault memory told
+      cases (up ∷ more) told = answers.take_wanted a.site.number up s t fault memory told
 
   -- it receives the oldest message
   pub linked : is_some (stars.link_of a.site.number s.links) ≡ true
@@ -164,10 +164,10 @@ module _ (s : stars.BoardStar) (a : Attached) (ready : mix.IsReady s (Some (star
   handed_down opening trace b one [] [] fit = refl
   handed_down opening trace b one [] (d ∷ os) fit =
       ap (mix.home_down board_batches (mix_of opening s (Some (record b { down = [] })) trace) (record b { down = [] }) 1 d []) fit
-      ∙ (λ j. record { reply = down_reply board_batches d; star = stars.fetched (sym one j) 1 s; site = Some (one_handed board_batches d [] b) })
+      ∙ (λ j. record { reply = world_worlds.down_reply board_batches d; star = stars.fetched (sym one j) 1 s; site = Some (world_worlds.one_handed board_batches d [] b) })
   handed_down opening trace b one (d ∷ ds) os fit =
       ap (mix.home_down board_batches (mix_of opening s (Some (record b { down = d ∷ ds })) trace) (record b { down = d ∷ ds }) 0 d ds) fit
-      ∙ (λ j. record { reply = down_reply board_batches d; star = ap (λ (ls : List BoardLink). record s { links = ls }) (map_kept (λ (k : BoardLink). k.site) 1 s.links) j; site = Some (one_handed board_batches d ds b) })
+      ∙ (λ j. record { reply = world_worlds.down_reply board_batches d; star = ap (λ (ls : List BoardLink). record s { links = ls }) (map_kept (λ (k : BoardLink). k.site) 1 s.links) j; site = Some (world_worlds.one_handed board_batches d ds b) })
 
   pub down_plays : (t : stars.BoardStar) (r : Result (Reply stars.BoardEdits stars.EditFault) NoMemory) (new : Attached)
       → IfOk r (λ reply. (k : BoardLink) → stars.link_of a.site.number s.links ≡ Some k → reply ≡ first_reply (refilled k (stars.bare_attached a)))
@@ -217,13 +217,13 @@ module _ (s : stars.BoardStar) (site : Option Attached) (a : Attached) (is : sit
   ready_there = subst (λ (o : Option Attached). mix.IsReady s (option_map stars.bare_attached o)) is ready
 
   pub edit_plays_at : (command : stars.Commands) (r : Result (Reply stars.BoardEdits stars.EditFault) NoMemory) (new : Attached)
-      → IfOk r (λ reply. reply ≡ edit_reply board_batches (stars.edit_answer board_batches command a.site))
+      → IfOk r (λ reply. reply ≡ soundness.edit_reply board_batches (stars.edit_answer board_batches command a.site))
       → OnOk r (stars.bare_attached new ≡ with_answer (stars.edit_answer board_batches command a.site) (stars.bare_attached a))
       → IfOk r (λ reply. mix.MixPlays (stars.HomeEdit command) s (option_map stars.bare_attached site) reply s (Some (stars.bare_attached new)))
   edit_plays_at command r new told made = subst (λ (o : Option Attached). IfOk r (λ reply. mix.MixPlays (stars.HomeEdit command) s (option_map stars.bare_attached o) reply s (Some (stars.bare_attached new)))) (sym is)
       (edit_plays s a ready_there command r new told made)
 
-  pub up_plays_at : (t : stars.BoardStar) (reply : Reply stars.BoardEdits stars.EditFault) (new : Attached) → Rises a.site.number (messages ups a.up.way) s t reply → stars.bare_attached new ≡ one_taken board_batches (stars.bare_attached a)
+  pub up_plays_at : (t : stars.BoardStar) (reply : Reply stars.BoardEdits stars.EditFault) (new : Attached) → Rises a.site.number (messages ups a.up.way) s t reply → stars.bare_attached new ≡ world_worlds.one_taken board_batches (stars.bare_attached a)
       → mix.MixPlays stars.HomeUp s (option_map stars.bare_attached site) reply t (Some (stars.bare_attached new))
   up_plays_at t reply new rises made = subst (λ (o : Option Attached). mix.MixPlays stars.HomeUp s (option_map stars.bare_attached o) reply t (Some (stars.bare_attached new))) (sym is) (up_plays s a ready_there t reply new rises made)
 
@@ -246,26 +246,26 @@ module _ (s : stars.BoardStar) (site : Option Attached) (a : Attached) (is : sit
 
 -- What holds of every one of the program: after each event, and after a failed allocation.
 
-module _ (O : stars.Operations) (L : stars.AreLawful O) (most : ℕ) (m : mix.MixOf O) (h : mix.IsHomeWorld O most m) (l : stars.LinkState O.Op) (a : AttachedOf O)
+module _ (O : stars.Operations) (L : stars.AreLawful O) (most : ℕ) (m : mix.MixOf O) (h : mix.IsHomeWorld O most m) (l : stars.LinkState O.Op) (a : world_worlds.AttachedOf O)
     (fl : stars.link_of 1 m.star.links ≡ Some l) (fa : m.site ≡ Some a) where
-  there : attached 1 (mix.world_of O m).sites ≡ Some a
+  there : world_worlds.attached 1 (mix.world_of O m).sites ≡ Some a
   there = worlds.found_home O m.site h.number ∙ fa
 
   -- messages were fetched, and no more
-  pub mix-fetched : (n : ℕ) → mix.IsHomeWorld O most (record { opening = m.opening; star = stars.fetched 1 n m.star; site = Some (with_fetched O n l a); trace = m.trace })
+  pub mix-fetched : (n : ℕ) → mix.IsHomeWorld O most (record { opening = m.opening; star = stars.fetched 1 n m.star; site = Some (world_worlds.with_fetched O n l a); trace = m.trace })
   mix-fetched n = record {
-    sound = subst (IsSound O most) fetched_is (sound-fetched O L most (mix.world_of O m) h.sound 1 n l a fl there);
+    sound = subst (soundness.IsSound O most) fetched_is (sound-fetched O L most (mix.world_of O m) h.sound 1 n l a fl there);
     tallied = subst (IsTallied O) fetched_is (tallied-fetched O (mix.world_of O m) h.tallied 1 n l);
-    strays = subst (KnowsStrays O) fetched_is (strays-fetched O L most (mix.world_of O m) h.sound h.strays 1 n l);
+    strays = subst (soundness.KnowsStrays O) fetched_is (strays-fetched O L most (mix.world_of O m) h.sound h.strays 1 n l);
     given = h.given;
-    number = worlds.one_numbered O most m h (with_fetched O n l a) (h.number a fa);
+    number = worlds.one_numbered O most m h (world_worlds.with_fetched O n l a) (h.number a fa);
     home = h.home;
   }
     where
-      fetched_is : only_fetched O (mix.world_of O m) 1 n l ≡ mix.world_of O (record { opening = m.opening; star = stars.fetched 1 n m.star; site = Some (with_fetched O n l a); trace = m.trace })
+      fetched_is : world_worlds.only_fetched O (mix.world_of O m) 1 n l ≡ mix.world_of O (record { opening = m.opening; star = stars.fetched 1 n m.star; site = Some (world_worlds.with_fetched O n l a); trace = m.trace })
       fetched_is =
-          let with_sites : List (AttachedOf O) → WorldOf O = λ sites. record { opening = m.opening; star = stars.fetched 1 n m.star; sites = sites; trace = (mix.world_of O m).trace } in
-          ap with_sites (worlds.changed O most m h (with_fetched O n l) a fa)
+          let with_sites : List (world_worlds.AttachedOf O) → world_worlds.WorldOf O = λ sites. record { opening = m.opening; star = stars.fetched 1 n m.star; sites = sites; trace = (mix.world_of O m).trace } in
+          ap with_sites (worlds.changed O most m h (world_worlds.with_fetched O n l) a fa)
 
   -- the oldest message on its way down is one that it takes
   pub oldest_fits : (d : Down O.Op) (ds : List (Down O.Op)) → a.down ++ l.outbox ≡ d ∷ ds → stars.deliver_fault O d a.site ≡ None

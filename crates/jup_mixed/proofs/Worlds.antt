@@ -5,21 +5,21 @@ use Rattle.std.proofs.lemmas.List.{map-append}
 use Rattle.jup_mixed.specs.Prelude.{left, HomeUp, HomeDown, JoinStray}
 use Rattle.jup_mixed.specs.Prelude as stars
 use Rattle.jup_world.specs.declared.events.Reply.TheVariants.{Joined, Made, Detached, Nothing, Shown}
-use Rattle.jup_world.specs.Events.{Join, JoinStray as WorldJoinStray, Edit as MakeEdit, Up as MoveUp, Down as MoveDown}
+use Rattle.jup_world.specs.Events as world_events
 use Rattle.jup_world.specs.Worlds.{WorldOf, AttachedOf, stray_joins as world_joins, stray_sends as world_sends, at_stray as world_stray}
 use Rattle.jup_world.specs.Worlds as worlds
 use Rattle.jup_world.specs.Traces.{made}
 use Rattle.jup_world.specs.Traces as traces
-use Rattle.jup_world.specs.Sound.{LinkedAt, KnowsStrays, IsSound, edit_reply, UpReplies, DownReplies, SiteReplies, SiteHolds, JoinReplies, IsAnswered}
+use Rattle.jup_world.specs.Sound as soundness
 use Rattle.jup_world.specs.Boards.{IsBoardWorld}
 use Rattle.jup_site.proofs.Numbers.{either}
 use Rattle.jup_world.proofs.EventSteps.{handed_number}
 use Rattle.jup_world.proofs.Sound.Traces.{stray-end, standing_of}
 use Rattle.jup_world.proofs.Sound.Runs as sound_runs
 use Rattle.jup_world.proofs.Sound.Tallies.{tallied-happens, tallies}
-use Rattle.jup_world.proofs.Worlds.{or_false, strays-happens, opened_sound}
-use Rattle.jup_world.proofs.Orders.{event-follows, run-follows, run_follows}
-use Rattle.jup_world.proofs.Copies.Sites.{HasPastStars, past_stars_run, run_copies, past_stars_opened, past_stars_happens}
+use Rattle.jup_world.proofs.Worlds as world_laws
+use Rattle.jup_world.proofs.Orders as orders
+use Rattle.jup_world.proofs.Copies.Sites as copies
 use Rattle.jup_world.proofs.Stars.{accepted}
 use Rattle.jup_mixed.specs.Mixed.{BoardMix}
 use Rattle.jup_mixed.specs.Mixed as mix
@@ -74,9 +74,9 @@ module _ (O : stars.Operations) (most : ℕ) (m : mix.MixOf O) (h : mix.IsHomeWo
 
   -- if the site is gone, so is its link
   pub unlinked : m.site ≡ None → stars.link_of 1 m.star.links ≡ None
-  unlinked none = cases (stars.link_of 1 m.star.links) (subst (λ oa. LinkedAt O (traces.is_stray 1 (mix.world_of O m).trace) (stars.link_of 1 m.star.links) oa) (found_home O m.site h.number ∙ none) (h.strays.links 1))
+  unlinked none = cases (stars.link_of 1 m.star.links) (subst (λ oa. soundness.LinkedAt O (traces.is_stray 1 (mix.world_of O m).trace) (stars.link_of 1 m.star.links) oa) (found_home O m.site h.number ∙ none) (h.strays.links 1))
     where
-      cases : (ol : Option (stars.LinkState O.Op)) → LinkedAt O (traces.is_stray 1 (mix.world_of O m).trace) ol None → ol ≡ None
+      cases : (ol : Option (stars.LinkState O.Op)) → soundness.LinkedAt O (traces.is_stray 1 (mix.world_of O m).trace) ol None → ol ≡ None
       cases None k = refl
       cases (Some l) k = absurd (let no = h.home in cc)
 
@@ -119,7 +119,7 @@ module _ (O : stars.Operations) (most : ℕ) (m : mix.MixOf O) (h : mix.IsHomeWo
   -- so its world goes on
   pub world_is : (e : mix.MixEventOf O) → worlds.happens O (mix.world_of O m) (mix.world_event O e) ≡ mix.world_of O (mix.mix_happens O m e)
   world_is e =
-      let with_trace : List (worlds.HappenedOf O) → WorldOf O = λ hs. record { opening = m.opening; star = (mix.mix_outcome O m e).star; sites = option_to_list (mix.mix_outcome O m e).site; trace = record { event = Join; reply = Joined 1 } ∷ hs } in
+      let with_trace : List (worlds.HappenedOf O) → WorldOf O = λ hs. record { opening = m.opening; star = (mix.mix_outcome O m e).star; sites = option_to_list (mix.mix_outcome O m e).site; trace = record { event = world_events.Join; reply = Joined 1 } ∷ hs } in
       ap (worlds.with_outcome O (mix.world_of O m) (mix.world_event O e)) (outcome_is e)
       ∙ ap with_trace (sym (map-append (mix.world_happened O) m.trace (record { event = e; reply = (mix.mix_outcome O m e).reply } ∷ [])))
 
@@ -193,7 +193,7 @@ module _ (O : stars.Operations) (most : ℕ) (m : mix.MixOf O) (h : mix.IsHomeWo
   not_given HomeDown = refl
   not_given JoinStray = joins (stars.join_fault m.star)
     where
-      joins : (f : Option stars.StarFault) → traces.stray_seen {Command = O.Command} {Operation = O.Op} 1 WorldJoinStray (mix.stray_joins O m f).reply ≡ false
+      joins : (f : Option stars.StarFault) → traces.stray_seen {Command = O.Command} {Operation = O.Op} 1 world_events.JoinStray (mix.stray_joins O m f).reply ≡ false
       joins None = ne_eqb (m.star.given + 1) 1 (λ e. let some = h.given in absurd (omega arith))
       joins (Some fault) = refl
   not_given (stars.Stray j up) = refl
@@ -203,26 +203,26 @@ module _ (O : stars.Operations) (L : stars.AreLawful O) where
   -- so all of it is kept
   pub home-happens : (most : ℕ) (m : mix.MixOf O) → mix.IsHomeWorld O most m → (e : mix.MixEventOf O) → mix.IsHomeWorld O most (mix.mix_happens O m e)
   home-happens most m h e = record {
-    sound = subst (IsSound O most) (world_is O most m h e) (sound_runs.sound-happens O L most (mix.world_of O m) (mix.world_event O e) h.sound);
+    sound = subst (soundness.IsSound O most) (world_is O most m h e) (sound_runs.sound-happens O L most (mix.world_of O m) (mix.world_event O e) h.sound);
     tallied = subst (traces.IsTallied O) (world_is O most m h e) (tallied-happens O (mix.world_of O m) h.tallied (h.sound.no_edit (m.star.given + 1) (omega arith)) (mix.world_event O e));
-    strays = subst (KnowsStrays O) (world_is O most m h e) (strays-happens O L most (mix.world_of O m) h.sound h.strays (mix.world_event O e));
-    given = (let more = (event-follows O L most (mix.world_of O m) h.sound (mix.world_event O e)).given in
+    strays = subst (soundness.KnowsStrays O) (world_is O most m h e) (world_laws.strays-happens O L most (mix.world_of O m) h.sound h.strays (mix.world_event O e));
+    given = (let more = (orders.event-follows O L most (mix.world_of O m) h.sound (mix.world_event O e)).given in
         let same : (worlds.outcome O (mix.world_of O m) (mix.world_event O e)).star.given ≡ (mix.mix_outcome O m e).star.given = ap (λ o. o.star.given) (outcome_is O most m h e) in
         let some = h.given in omega arith);
     number = numbered O most m h e;
     home = ap (λ (w : WorldOf O). traces.is_stray 1 w.trace) (sym (world_is O most m h e))
         ∙ stray-end 1 (mix.world_of O m).trace (record { event = mix.world_event O e; reply = (worlds.outcome O (mix.world_of O m) (mix.world_event O e)).reply })
         ∙ ap (λ o. traces.is_stray 1 (mix.world_of O m).trace || traces.stray_seen 1 (mix.world_event O e) o.reply) (outcome_is O most m h e)
-        ∙ or_false (traces.is_stray 1 (mix.world_of O m).trace) (traces.stray_seen 1 (mix.world_event O e) (mix.mix_outcome O m e).reply) (not_given O most m h e)
+        ∙ world_laws.or_false (traces.is_stray 1 (mix.world_of O m).trace) (traces.stray_seen 1 (mix.world_event O e) (mix.mix_outcome O m e).reply) (not_given O most m h e)
         ∙ h.home;
   }
 
   -- as it is opened: its site has joined a world that was
-  pub home-opened : (most limit : ℕ) (board : O.State) → IsSound O most (worlds.opened_world O board limit) → mix.IsHomeWorld O most (mix.opened_mix O board limit)
+  pub home-opened : (most limit : ℕ) (board : O.State) → soundness.IsSound O most (worlds.opened_world O board limit) → mix.IsHomeWorld O most (mix.opened_mix O board limit)
   home-opened most limit board opened = record {
-    sound = sound_runs.sound-happens O L most (worlds.opened_world O board limit) Join opened;
-    tallied = tallied-happens O (worlds.opened_world O board limit) (record { given = refl; made = tt }) refl Join;
-    strays = strays-happens O L most (worlds.opened_world O board limit) opened (record { links = λ i. tt; new = λ i above. refl }) Join;
+    sound = sound_runs.sound-happens O L most (worlds.opened_world O board limit) world_events.Join opened;
+    tallied = tallied-happens O (worlds.opened_world O board limit) (record { given = refl; made = tt }) refl world_events.Join;
+    strays = world_laws.strays-happens O L most (worlds.opened_world O board limit) opened (record { links = λ i. tt; new = λ i above. refl }) world_events.Join;
     given = omega arith;
     number = λ a e. (let same : mix.new_home O board limit ≡ a = cc in subst (λ (x : AttachedOf O). x.site.number ≡ 1) same refl);
     home = refl;
@@ -294,7 +294,7 @@ module _ (O : stars.Operations) (L : stars.AreLawful O) (most : ℕ) (m : mix.Mi
   pub home_link : (a : AttachedOf O) → m.site ≡ Some a → (l : stars.LinkState O.Op) × (stars.link_of 1 m.star.links ≡ Some l)
   home_link a fa = let st = standing_of O L most (mix.world_of O m) h.sound 1 a (there a fa) in (st.0, st.2)
 
-  pub holds : (l : stars.LinkState O.Op) (a : AttachedOf O) → stars.link_of 1 m.star.links ≡ Some l → m.site ≡ Some a → SiteHolds O (mix.world_of O m) 1 l a
+  pub holds : (l : stars.LinkState O.Op) (a : AttachedOf O) → stars.link_of 1 m.star.links ≡ Some l → m.site ≡ Some a → soundness.SiteHolds O (mix.world_of O m) 1 l a
   holds l a fl fa = sound_runs.sites-hold O L most (mix.world_of O m) h.sound 1 l a fl (there a fa)
 
   -- at every moment
@@ -323,11 +323,11 @@ module _ (O : stars.Operations) (L : stars.AreLawful O) (most : ℕ) (m : mix.Mi
   -- a full order alone detaches the site
   pub home-full : mix.OnlyFull O m
   home-full fault is = either m.site (λ o. m.site ≡ o → (fault ≡ stars.LogFull) × (m.star.limit ≤ length m.star.order))
-      (λ none e. absurd (let nothing = (sound_runs.replies O L most (mix.world_of O m) h.sound (MoveUp 1)).absent (found_home O m.site h.number ∙ none) in let same = reply_is HomeUp in cc))
+      (λ none e. absurd (let nothing = (sound_runs.replies O L most (mix.world_of O m) h.sound (world_events.Up 1)).absent (found_home O m.site h.number ∙ none) in let same = reply_is HomeUp in cc))
       (λ a fa e. sound_runs.only-full O L most (mix.world_of O m) h.sound 1 a fault (there a fa) (reply_is HomeUp ∙ is)) refl
 
   -- an event of the site
-  as_home : (e : mix.MixEventOf O) (P : worlds.ReplyOf O → stars.LinkState O.Op → AttachedOf O → Type 0) → SiteReplies O (mix.world_of O m) 1 (worlds.outcome O (mix.world_of O m) (mix.world_event O e)).reply (P (worlds.outcome O (mix.world_of O m) (mix.world_event O e)).reply)
+  as_home : (e : mix.MixEventOf O) (P : worlds.ReplyOf O → stars.LinkState O.Op → AttachedOf O → Type 0) → soundness.SiteReplies O (mix.world_of O m) 1 (worlds.outcome O (mix.world_of O m) (mix.world_event O e)).reply (P (worlds.outcome O (mix.world_of O m) (mix.world_event O e)).reply)
       → mix.HomeReplies O m (mix.mix_outcome O m e) (P (mix.mix_outcome O m e).reply)
   as_home e P r = record {
     absent = λ none. (sym (reply_is e) ∙ r.absent (found_home O m.site h.number ∙ none));
@@ -335,9 +335,9 @@ module _ (O : stars.Operations) (L : stars.AreLawful O) (most : ℕ) (m : mix.Mi
   }
 
   pub home-replies : (e : mix.MixEventOf O) → IsHomeEvent O e → mix.MixReplies O m e (mix.mix_outcome O m e)
-  home-replies (stars.HomeEdit command) home = as_home (stars.HomeEdit command) (λ r l a. r ≡ edit_reply O (stars.edit_answer O command a.site)) (sound_runs.replies O L most (mix.world_of O m) h.sound (MakeEdit 1 command))
-  home-replies HomeUp home = as_home HomeUp (λ r l a. UpReplies O m.star a.up r) (sound_runs.replies O L most (mix.world_of O m) h.sound (MoveUp 1))
-  home-replies HomeDown home = as_home HomeDown (λ r l a. DownReplies O (a.down ++ l.outbox) r) (sound_runs.replies O L most (mix.world_of O m) h.sound (MoveDown 1))
+  home-replies (stars.HomeEdit command) home = as_home (stars.HomeEdit command) (λ r l a. r ≡ soundness.edit_reply O (stars.edit_answer O command a.site)) (sound_runs.replies O L most (mix.world_of O m) h.sound (world_events.Edit 1 command))
+  home-replies HomeUp home = as_home HomeUp (λ r l a. soundness.UpReplies O m.star a.up r) (sound_runs.replies O L most (mix.world_of O m) h.sound (world_events.Up 1))
+  home-replies HomeDown home = as_home HomeDown (λ r l a. soundness.DownReplies O (a.down ++ l.outbox) r) (sound_runs.replies O L most (mix.world_of O m) h.sound (world_events.Down 1))
   home-replies e home = absurd home
 
 module _ (O : stars.Operations) (L : stars.AreLawful O) where
@@ -352,8 +352,8 @@ module _ (O : stars.Operations) (L : stars.AreLawful O) where
       let is = run_is es most m h in
       let last = home-run O L es most m h in
       record {
-        star = subst (λ (w : WorldOf O). O.t.keeps_order m.star.board w.star.board) is (run-follows O L (map (mix.world_event O) es) most (mix.world_of O m) h.sound).order;
-        site = λ a b fa fb. (run_follows O L (map (mix.world_event O) es) most (mix.world_of O m) h.sound 1 a b (found_home O m.site h.number ∙ fa)
+        star = subst (λ (w : WorldOf O). O.t.keeps_order m.star.board w.star.board) is (orders.run-follows O L (map (mix.world_event O) es) most (mix.world_of O m) h.sound).order;
+        site = λ a b fa fb. (orders.run_follows O L (map (mix.world_event O) es) most (mix.world_of O m) h.sound 1 a b (found_home O m.site h.number ∙ fa)
             (ap (λ (w : WorldOf O). worlds.attached 1 w.sites) is ∙ found_home O (mix.mix_run O m es).site last.number ∙ fb)).order;
       }
 
@@ -364,13 +364,13 @@ module _ (O : stars.Operations) (L : stars.AreLawful O) where
 
   module _ (symmetric : (x y : O.State) → O.t.keeps_order x y → O.t.keeps_order y x) where
     -- any events leave a past star for each length of the order
-    pub home-past : (es : List (mix.MixEventOf O)) (most : ℕ) (m : mix.MixOf O) → mix.IsHomeWorld O most m → HasPastStars O L symmetric most (mix.world_of O m) → HasPastStars O L symmetric most (mix.world_of O (mix.mix_run O m es))
-    home-past es most m h past = subst (HasPastStars O L symmetric most) (run_is es most m h) (past_stars_run O L symmetric (map (mix.world_event O) es) most (mix.world_of O m) h.sound past)
+    pub home-past : (es : List (mix.MixEventOf O)) (most : ℕ) (m : mix.MixOf O) → mix.IsHomeWorld O most m → copies.HasPastStars O L symmetric most (mix.world_of O m) → copies.HasPastStars O L symmetric most (mix.world_of O (mix.mix_run O m es))
+    home-past es most m h past = subst (copies.HasPastStars O L symmetric most) (run_is es most m h) (copies.past_stars_run O L symmetric (map (mix.world_event O) es) most (mix.world_of O m) h.sound past)
 
     -- so any two copies show in one order what both show
-    pub home-copies : (es : List (mix.MixEventOf O)) (most : ℕ) (m : mix.MixOf O) → mix.IsHomeWorld O most m → HasPastStars O L symmetric most (mix.world_of O m) → mix.MixOrdersAgree O m (mix.mix_run O m es)
+    pub home-copies : (es : List (mix.MixEventOf O)) (most : ℕ) (m : mix.MixOf O) → mix.IsHomeWorld O most m → copies.HasPastStars O L symmetric most (mix.world_of O m) → mix.MixOrdersAgree O m (mix.mix_run O m es)
     home-copies es most m h past x y now later =
-        run_copies O L symmetric most (mix.world_of O m) h.sound past (map (mix.world_event O) es) x y (copy_of most m h x now)
+        copies.run_copies O L symmetric most (mix.world_of O m) h.sound past (map (mix.world_event O) es) x y (copy_of most m h x now)
         (subst (λ (w : WorldOf O). traces.IsCopy O w y) (sym (run_is es most m h)) (copy_of most (mix.mix_run O m es) (home-run O L es most m h) y later))
 
 -- After any events on boards.
@@ -378,7 +378,7 @@ module _ (O : stars.Operations) (L : stars.AreLawful O) where
 module _ (m : BoardMix) (r : mix.IsMixed m) where
   -- the world that it was opened over
   opened : IsBoardWorld (worlds.opened_world stars.board_batches r.board r.limit)
-  opened = opened_sound r.board r.limit r.opening r.limited
+  opened = world_laws.opened_sound r.board r.limit r.opening r.limited
 
   first : mix.IsHomeWorld stars.board_batches stars.most_batches (mix.opened_mix stars.board_batches r.board r.limit)
   first = home-opened stars.board_batches stars.batch_laws stars.most_batches r.limit r.board opened.sound
@@ -387,17 +387,17 @@ module _ (m : BoardMix) (r : mix.IsMixed m) where
   home-reached = subst (mix.IsHomeWorld stars.board_batches stars.most_batches) (sym r.is) (home-run stars.board_batches stars.batch_laws r.events stars.most_batches (mix.opened_mix stars.board_batches r.board r.limit) first)
 
   -- for each length of its order a star that its world had then
-  pub past-reached : HasPastStars stars.board_batches stars.batch_laws stars.order_symmetric stars.most_batches (mix.world_of stars.board_batches m)
-  past-reached = subst (λ (k : BoardMix). HasPastStars stars.board_batches stars.batch_laws stars.order_symmetric stars.most_batches (mix.world_of stars.board_batches k)) (sym r.is)
+  pub past-reached : copies.HasPastStars stars.board_batches stars.batch_laws stars.order_symmetric stars.most_batches (mix.world_of stars.board_batches m)
+  past-reached = subst (λ (k : BoardMix). copies.HasPastStars stars.board_batches stars.batch_laws stars.order_symmetric stars.most_batches (mix.world_of stars.board_batches k)) (sym r.is)
       (home-past stars.board_batches stars.batch_laws stars.order_symmetric r.events stars.most_batches (mix.opened_mix stars.board_batches r.board r.limit) first
-      (past_stars_happens stars.board_batches stars.batch_laws stars.order_symmetric stars.most_batches (worlds.opened_world stars.board_batches r.board r.limit) opened.sound Join
-      (past_stars_opened stars.board_batches stars.batch_laws stars.order_symmetric stars.most_batches r.limit r.board opened.sound)))
+      (copies.past_stars_happens stars.board_batches stars.batch_laws stars.order_symmetric stars.most_batches (worlds.opened_world stars.board_batches r.board r.limit) opened.sound world_events.Join
+      (copies.past_stars_opened stars.board_batches stars.batch_laws stars.order_symmetric stars.most_batches r.limit r.board opened.sound)))
 
 -- What each event of a stranger answers.
 
 module _ (O : stars.Operations) (L : stars.AreLawful O) where
   -- a stranger joins
-  join_replies : (m : mix.MixOf O) → JoinReplies O m.star (mix.stray_joins O m (stars.join_fault m.star)).reply
+  join_replies : (m : mix.MixOf O) → soundness.JoinReplies O m.star (mix.stray_joins O m (stars.join_fault m.star)).reply
   join_replies m =
       let faults = sound_runs.join_faults O L m.star in
       record {
@@ -422,8 +422,8 @@ module _ (O : stars.Operations) (L : stars.AreLawful O) where
 module _ (O : stars.Operations) (L : stars.AreLawful O) (most : ℕ) (m : mix.MixOf O) (h : mix.IsHomeWorld O most m) where
   -- a stranger's message at its link
   sent_one : (j : ℕ) (l : stars.LinkState O.Op) → stars.link_of j m.star.links ≡ Some l → (up : stars.Up O.Op)
-      → (let o = mix.stray_sends O m j l up (stars.up_fault O m.star l up) in IsAnswered O m.star j l up o.reply o.star)
-  sent_one j l fl up = either (stars.up_fault O m.star l up) (λ f. let o = mix.stray_sends O m j l up f in IsAnswered O m.star j l up o.reply o.star)
+      → (let o = mix.stray_sends O m j l up (stars.up_fault O m.star l up) in soundness.IsAnswered O m.star j l up o.reply o.star)
+  sent_one j l fl up = either (stars.up_fault O m.star l up) (λ f. let o = mix.stray_sends O m j l up f in soundness.IsAnswered O m.star j l up o.reply o.star)
       (λ none. inr (accepted O L most (O.t.content m.opening) m.star h.sound.star.star j l fl up none)) (λ fault is. inl (record { fault = fault; cause = is; reply = refl; star = refl }))
 
   -- at any number
@@ -432,7 +432,7 @@ module _ (O : stars.Operations) (L : stars.AreLawful O) (most : ℕ) (m : mix.Mi
     site = keeps (nat_eq j 1) (stars.link_of j m.star.links);
     absent = λ gone. (ap (λ o. cond (nat_eq j 1) (mix.still O m Nothing) (mix.at_link_of O m (λ l. mix.stray_sends O m j l up (stars.up_fault O m.star l up)) o)) gone ∙ either_way (nat_eq j 1));
     own = λ is. ap (λ b. cond b (mix.still O m Nothing) (mix.at_link_of O m (λ l. mix.stray_sends O m j l up (stars.up_fault O m.star l up)) (stars.link_of j m.star.links))) (eq-eqb j 1 is);
-    present = λ other l fl. (let now = there l other fl in subst (λ o. IsAnswered O m.star j l up o.reply o.star) (sym now) (sent_one j l fl up));
+    present = λ other l fl. (let now = there l other fl in subst (λ o. soundness.IsAnswered O m.star j l up o.reply o.star) (sym now) (sent_one j l fl up));
   }
     where
       sends : (l : stars.LinkState O.Op) (f : Option stars.StarFault) → (mix.stray_sends O m j l up f).site ≡ m.site

@@ -10,7 +10,7 @@ use Rattle.jup_socket.specs.Sockets.{messages_down}
 use Rattle.jup_session.specs.Sessions as sessions
 use Rattle.jup_rules.specs.declared.ends.Untaken.{Untaken}
 use Rattle.jup_session.proofs.Calls.{heard_serves}
-use Rattle.jup_served.specs.Sessions.{Ended, ServesSite, answer_of, writer_of, fetches_for}
+use Rattle.jup_served.specs.Sessions as served_sessions
 use Rattle.jup_session.specs.Prelude.{HubFault, Made, SaysBye, Incoming, down_lines, Keeper}
 use Rattle.jup_hub.specs.Prelude.{is_no_memory}
 use Rattle.jup_hub.specs.declared.fault.HubFault.TheVariants.{Star, Spent as HubSpent}
@@ -380,10 +380,10 @@ took site a c v x ending withheld (inr h) = record {
 
 -- The calls of a session that served a site: the join and the takes under one number, the fetches and the departure under another.
 
-module _ (s : Ended) (serves : ServesSite s) where
+module _ (s : served_sessions.Ended) (serves : served_sessions.ServesSite s) where
   -- its join
   abbrev pub join : HubEvent
-  join = entry s.given.number Join (served.JoinedReply (Ok (answer_of serves)))
+  join = entry s.given.number Join (served.JoinedReply (Ok (served_sessions.answer_of serves)))
 
   -- what its reading half took
   pub half : Took serves.served.site serves.served.greeted (after_split serves.served.behind) serves.served.halves.read (served.bytes_heard serves.served.halves.hears)
@@ -405,5 +405,5 @@ module _ (s : Ended) (serves : ServesSite s) where
         (heard_serves serves.served.site serves.served.greeted serves.served.halves.last (after_split serves.served.behind) serves.served.halves.read serves.served.halves.heard s.undone.untaken serves.served.halves.hears).kept
         ∙ ap (λ (v : View). v.kept) serves.served.welcomed.enters.view ∙ new.1
 
-    pub kept_is : s.back.kept ≡ tally (writer_of serves) (fetches_for serves ++ departing) ∷ []
-    kept_is = serves.served.halves.kept ∙ ap (λ ts. ts ++ tally (writer_of serves) (fetches_for serves ++ departing) ∷ []) read_kept
+    pub kept_is : s.back.kept ≡ tally (served_sessions.writer_of serves) (served_sessions.fetches_for serves ++ departing) ∷ []
+    kept_is = serves.served.halves.kept ∙ ap (λ ts. ts ++ tally (served_sessions.writer_of serves) (served_sessions.fetches_for serves ++ departing) ∷ []) read_kept

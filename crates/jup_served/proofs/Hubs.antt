@@ -5,7 +5,7 @@ use Rattle.jup_served.specs.Prelude as served
 use Rattle.jup_star.specs.Stars.{link_of, joined, BoardStar, fetch_result, reply_of, star_after, new_star}
 use Rattle.jup_hub.specs.Histories.{star_through, IsLegal, calls_by, AllTallied, IsNew, AllApart, is_among, calls_in, Meets, tally, tallies}
 use Rattle.jup_hub.proofs.Histories.{no_others}
-use Rattle.jup_honest.specs.Sites.{fetched_in, fetched_with, fetches_of}
+use Rattle.jup_honest.specs.Sites as sites
 use Rattle.jup_honest.proofs.Steps.{CalledStar, call-grows, called-opened}
 use Rattle.jup_honest.proofs.Runs.{join_gives}
 use Rattle.jup_session.specs.Sessions.{IsCallFor, AreCallsFor, AreTalliesFor, FollowsJoin, IsOneSite, HasMadeNone}
@@ -74,23 +74,23 @@ one_join board (x ∷ xs) s h legal e f n (inr is) (inr so) one two =
     let grows = call-grows board x.call s h in one_join board xs (star_after x.call s) grows.called legal.1 e f n is so one two
 
 -- a fetch for a number that was not given brings nothing
-fetch_none : (board : served.Windows) (i : ℕ) (s : BoardStar) → CalledStar board s → s.given < i → (c : served.Call) → fetched_with i c (reply_of c s) [] ≡ []
+fetch_none : (board : served.Windows) (i : ℕ) (s : BoardStar) → CalledStar board s → s.given < i → (c : served.Call) → sites.fetched_with i c (reply_of c s) [] ≡ []
 unfolding reply_of
 fetch_none board i s h above Join = refl
 fetch_none board i s h above (served.Take j u) = refl
 fetch_none board i s h above (served.Fetch j max) = cases (nat_eq j i) refl
   where
-    cases : (b : Bool) → nat_eq j i ≡ b → cond b (fetched_in (served.Fetched (fetch_result max (link_of j s.links)))) [] ≡ []
-    cases true is = ap (λ o. fetched_in (served.Fetched (fetch_result max o))) (subst (λ k. link_of k s.links ≡ None) (sym (eqb-true j i is)) (h.star.no_link i above))
+    cases : (b : Bool) → nat_eq j i ≡ b → cond b (sites.fetched_in (served.Fetched (fetch_result max (link_of j s.links)))) [] ≡ []
+    cases true is = ap (λ o. sites.fetched_in (served.Fetched (fetch_result max o))) (subst (λ k. link_of k s.links ≡ None) (sym (eqb-true j i is)) (h.star.no_link i above))
     cases false is = refl
 fetch_none board i s h above (served.Leave j) = refl
 
-pub early_fetches : (board : served.Windows) (i : ℕ) (es : List HubEvent) (s : BoardStar) → CalledStar board s → IsLegal s es → (star_through s es).given < i → fetches_of i es ≡ []
+pub early_fetches : (board : served.Windows) (i : ℕ) (es : List HubEvent) (s : BoardStar) → CalledStar board s → IsLegal s es → (star_through s es).given < i → sites.fetches_of i es ≡ []
 early_fetches board i [] s h legal above = refl
 early_fetches board i (e ∷ es) s h legal above =
     let one = call-grows board e.call s h in
     let later = given_through board es (star_after e.call s) one.called in
-    ap (λ ds. ds ++ fetches_of i es) (ap (λ r. fetched_with i e.call r []) legal.0 ∙ fetch_none board i s h (omega (arith, one.follows.given, later, above)) e.call)
+    ap (λ ds. ds ++ sites.fetches_of i es) (ap (λ r. sites.fetched_with i e.call r []) legal.0 ∙ fetch_none board i s h (omega (arith, one.follows.given, later, above)) e.call)
     ∙ early_fetches board i es (star_after e.call s) one.called legal.1 above
 
 -- In a hub that sessions alone call, the site of each session is its own.

@@ -2,22 +2,21 @@
 use Rattle.std.proofs.Common.{◌≡◌, ℕ, ◌≤◌, Bool, true, false, List, [], ◌∷◌, ◌++◌, refl, sym, ap, ◌∙◌, arith, nat_le, ◌&&◌, ◌⊎◌, inl, inr, ◌<◌, Ok, IsTrue, subst, append_assoc, bytes_eq, map, Err, append-nil}
 use Rattle.std.proofs.lemmas.Bool.{leb-false, cond-true}
 use Rattle.jup_window.specs.declared.kinds.WidgetOp.TheVariants as widget
-use Rattle.jup_window.specs.Widgets.{relabels_no_text}
 use Rattle.jup_window.specs.Boards as board
 use Rattle.jup_window.specs.Widgets as one
 use Rattle.jup_served.specs.Prelude.{Joined, HubEvent, ClientState, Bye, Gone}
 use Rattle.jup_served.specs.Prelude as served
-use Rattle.jup_star.specs.Sites.{edit_reply, site_edited, deliver_reply, site_delivered}
+use Rattle.jup_star.specs.Sites as star_sites
 use Rattle.jup_wire.specs.declared.line.Line.TheVariants as line
 use Rattle.jup_wire.specs.Kinds.{IsBody}
 use Rattle.jup_layout.specs.Drafts.{widget_lines, window_lines, board_lines}
 use Rattle.jup_hub.specs.Histories.{entry, star_through, IsLegal, calls_by, AllTallied, is_among, tally, tallies}
 use Rattle.jup_honest.specs.Sites as honest
-use Rattle.jup_honest.proofs.Steps.{CalledStar, called-opened, legal-parts}
-use Rattle.jup_honest.proofs.Backlogs.{begins_chain, both_begin, causal_through}
+use Rattle.jup_honest.proofs.Steps as honest_steps
+use Rattle.jup_honest.proofs.Backlogs as backlogs
 use Rattle.jup_honest.proofs.Runs.{join_gives}
 use Rattle.jup_honest.proofs.Relies.{run-history}
-use Rattle.jup_socket.specs.Sockets.{IsLast, greeting, messages_down, written_down}
+use Rattle.jup_socket.specs.Sockets as sockets
 use Rattle.jup_socket.proofs.Sockets.{all_first, up_reliable, down_reliable, edit_step, deliver_step}
 use Rattle.jup_session.specs.Sessions.{IsCallFor, IsFetchFor, welcome_lines}
 use Rattle.jup_served.specs.Sessions.{Ended, ServesSite, answer_of, writer_of, fetches_for, IsOwnedBy, IsServedRun, IsOneOf, IsSessionHub, IsClientStep, IsClientRun}
@@ -41,7 +40,7 @@ and_true true true p q = refl
 and_true true false p q = absurd (cc)
 and_true false b p q = absurd (cc)
 
-body_spelled : (w : WidgetOp) → IsBody w → relabels_no_text w ≡ true
+body_spelled : (w : WidgetOp) → IsBody w → one.relabels_no_text w ≡ true
 body_spelled (widget.Text op) is = is.0
 body_spelled (widget.List op) is = refl
 body_spelled other is = refl
@@ -82,7 +81,7 @@ bare_lines (w ∷ ws) =
 
 -- The run of a site that a session serves is honest.
 
-ending_is_last : (e : served.Ending) → IsLast (served.last_line e)
+ending_is_last : (e : served.Ending) → sockets.IsLast (served.last_line e)
 ending_is_last Bye = tt
 ending_is_last Gone = tt
 ending_is_last (served.Fault n) = tt
@@ -176,15 +175,15 @@ module _ (run : honest.SiteRun) (log : List HubEvent) (s : Ended) (is : IsServed
       })
 
   -- the lines of the session
-  all_lines_are : s.exact.lines ≡ written_down run.answer all_fetched (served.last_line s.ending ∷ [])
+  all_lines_are : s.exact.lines ≡ sockets.written_down run.answer all_fetched (served.last_line s.ending ∷ [])
   all_lines_are =
       is.serves.served.lines_are ∙ ap (λ ls. ls ++ is.serves.served.later) is.serves.served.welcomed.lines_are
       ∙ ap (λ ls. welcome_lines is.serves.served.welcomed.joined ++ ls) is.serves.served.halves.lines_are
       ∙ ap (λ ls. welcome_lines is.serves.served.welcomed.joined ++ (ls ++ served.last_line s.ending ∷ []))
       (calls.fetches_are is.serves.served.site (fetches_for is.serves) is.serves.served.halves.alone)
-      ∙ ap (λ ls. greeting is.serves.served.welcomed.joined.site is.serves.served.welcomed.joined.limit ls ++ (messages_down all_fetched ++ served.last_line s.ending ∷ []))
+      ∙ ap (λ ls. sockets.greeting is.serves.served.welcomed.joined.site is.serves.served.welcomed.joined.limit ls ++ (sockets.messages_down all_fetched ++ served.last_line s.ending ∷ []))
       (sym (bare_lines is.serves.served.welcomed.joined.board))
-      ∙ ap (λ (j : Joined). greeting j.site j.limit (board_lines j.board) ++ (messages_down all_fetched ++ served.last_line s.ending ∷ [])) (sym is.moment.answer)
+      ∙ ap (λ (j : Joined). sockets.greeting j.site j.limit (board_lines j.board) ++ (sockets.messages_down all_fetched ++ served.last_line s.ending ∷ [])) (sym is.moment.answer)
 
   -- and the site received the first of the messages that were fetched
   handed_first : honest.Begins all_fetched (honest.now run).handed
@@ -198,19 +197,19 @@ module _ (run : honest.SiteRun) (log : List HubEvent) (s : Ended) (is : IsServed
         received = d.received;
         left = d.left ++ s.exact.wrote.1;
         bytes = sym (append_assoc d.received.read d.left s.exact.wrote.1) ∙ ap (λ bs. bs ++ s.exact.wrote.1) d.bytes ∙ sym s.exact.wrote.2
-            ∙ ap (served.flat_map served.line_bytes) all_lines_are ∙ lines_spelled (written_down run.answer all_fetched (served.last_line s.ending ∷ [])) spelled;
+            ∙ ap (served.flat_map served.line_bytes) all_lines_are ∙ lines_spelled (sockets.written_down run.answer all_fetched (served.last_line s.ending ∷ [])) spelled;
       })
 
   -- # The history
 
   legal : IsLegal (honest.opening run) (honest.calls run)
-  legal = (legal-parts (honest.opening run) (honest.calls run) is.moment.first.0 (subst (λ es. IsLegal (honest.opening run) es) is.moment.first.1 (subst (λ o. IsLegal o log) is.moment.opened is.moment.meets.legal))).0
+  legal = (honest_steps.legal-parts (honest.opening run) (honest.calls run) is.moment.first.0 (subst (λ es. IsLegal (honest.opening run) es) is.moment.first.1 (subst (λ o. IsLegal o log) is.moment.opened is.moment.meets.legal))).0
 
-  opened : CalledStar run.board (honest.opening run)
-  opened = called-opened run.keeps run.board run.limit is.opens is.limited
+  opened : honest_steps.CalledStar run.board (honest.opening run)
+  opened = honest_steps.called-opened run.keeps run.board run.limit is.opens is.limited
 
   parts : IsLegal (honest.opening run) run.before × IsLegal (star_through (honest.opening run) run.before) (entry run.by served.Join (served.JoinedReply (Ok run.answer)) ∷ honest.history run.steps)
-  parts = legal-parts (honest.opening run) run.before (entry run.by served.Join (served.JoinedReply (Ok run.answer)) ∷ honest.history run.steps) legal
+  parts = honest_steps.legal-parts (honest.opening run) run.before (entry run.by served.Join (served.JoinedReply (Ok run.answer)) ∷ honest.history run.steps) legal
 
   -- before the site joined its number was not given
   not_given : (star_through (honest.opening run) run.before).given < run.answer.site
@@ -334,13 +333,13 @@ module _ (run : honest.SiteRun) (log : List HubEvent) (s : Ended) (is : IsServed
 
     reliable : honest.IsReliable (honest.now run)
     reliable = record {
-      up = both_begin ((honest.now run).sent ++ is.up.more) (honest.now run).sent (honest.now run).taken (is.up.more, refl)
-          (begins_chain ((honest.now run).sent ++ is.up.more) all_taken (honest.now run).taken sent_first taken_first) last.up;
-      down = both_begin all_fetched (honest.now run).fetched (honest.now run).handed fetched_first handed_first last.down;
+      up = backlogs.both_begin ((honest.now run).sent ++ is.up.more) (honest.now run).sent (honest.now run).taken (is.up.more, refl)
+          (backlogs.begins_chain ((honest.now run).sent ++ is.up.more) all_taken (honest.now run).taken sent_first taken_first) last.up;
+      down = backlogs.both_begin all_fetched (honest.now run).fetched (honest.now run).handed fetched_first handed_first last.down;
     }
 
     pub served_honest : honest.IsHonest run
-    served_honest = record { opens = is.opens; limited = is.limited; legal = legal; reliable = causal_through run.steps (honest.start run) is.causal reliable }
+    served_honest = record { opens = is.opens; limited = is.limited; legal = legal; reliable = backlogs.causal_through run.steps (honest.start run) is.causal reliable }
 
 -- Of a hub that sessions alone call, the run of each site that one of them serves is honest.
 
@@ -365,20 +364,20 @@ shows_after (honest.Edit commands) c old new said first shows (answer, answers, 
     elim (edit_step commands old new (Ok answer) answers) [
       | inl ended ↦ absurd (let none : Ok answer ≡ Err NoMemory = ended.0 in cc)
       | inr made ↦ record {
-        site = made.0 ∙ ap (site_edited commands) shows.site;
+        site = made.0 ∙ ap (star_sites.site_edited commands) shows.site;
         said = ap (λ ss. ss ++ first) shows.said
-            ∙ ap (λ ss. map (λ up. served.SaysUp up) c.sent ++ ss) (says ∙ made.1 ∙ ap (λ s. map (λ up. served.SaysUp up) (honest.sent_as_made (edit_reply commands s))) shows.site)
-            ∙ sym (served.map-append (λ up. served.SaysUp up) c.sent (honest.sent_as_made (edit_reply commands c.site)));
+            ∙ ap (λ ss. map (λ up. served.SaysUp up) c.sent ++ ss) (says ∙ made.1 ∙ ap (λ s. map (λ up. served.SaysUp up) (honest.sent_as_made (star_sites.edit_reply commands s))) shows.site)
+            ∙ sym (served.map-append (λ up. served.SaysUp up) c.sent (honest.sent_as_made (star_sites.edit_reply commands c.site)));
       }
     ]
 shows_after (honest.Deliver down) c old new said first shows (heard, delivers, says) =
     elim (deliver_step down old new (Ok heard) delivers) [
       | inl ended ↦ absurd (let none : Ok heard ≡ Err NoMemory = ended.0 in cc)
       | inr made ↦ record {
-        site = made.0 ∙ ap (site_delivered down) shows.site;
+        site = made.0 ∙ ap (star_sites.site_delivered down) shows.site;
         said = ap (λ ss. ss ++ first) shows.said
-            ∙ ap (λ ss. map (λ up. served.SaysUp up) c.sent ++ ss) (says ∙ made.1 ∙ ap (λ s. map (λ up. served.SaysUp up) (honest.sent_as_handed (deliver_reply down s))) shows.site)
-            ∙ sym (served.map-append (λ up. served.SaysUp up) c.sent (honest.sent_as_handed (deliver_reply down c.site)));
+            ∙ ap (λ ss. map (λ up. served.SaysUp up) c.sent ++ ss) (says ∙ made.1 ∙ ap (λ s. map (λ up. served.SaysUp up) (honest.sent_as_handed (star_sites.deliver_reply down s))) shows.site)
+            ∙ sym (served.map-append (λ up. served.SaysUp up) c.sent (honest.sent_as_handed (star_sites.deliver_reply down c.site)));
       }
     ]
 shows_after (honest.Ping k) c old new said first shows (answer, answers, says, ping) = record {

@@ -7,15 +7,15 @@ use Rattle.jup_star.specs.Sites.{BoardSite, site_edited}
 use Rattle.jup_wire.specs.declared.line.Line.TheVariants.{Bye}
 use Rattle.jup_wire.specs.Streams.{IsPart}
 use Rattle.jup_gather.specs.Gathering.{IsPiece}
-use Rattle.jup_hub.specs.Histories.{Meets, tally, after_split, having_called, with_call}
+use Rattle.jup_hub.specs.Histories as histories
 use Rattle.jup_honest.specs.Sites.{Step, Edit, Deliver, Ping, Called, IsCausalThrough, SiteRun, now, start, AreDrained}
 use Rattle.jup_client.specs.declared.client.Told.TheVariants as told
 use Rattle.jup_stream.specs.Saying.{said_piece}
 use Rattle.jup_rules.specs.Sessions.{says_edit, counted}
 use Rattle.jup_socket.specs.Sockets.{said_lines, all_said}
 use Rattle.jup_socket.proofs.Sockets.{mapped_lines}
-use Rattle.jup_session.specs.Sessions.{lines_brought, AreFetchesFor, LastLeavesNothing, welcome_lines, AreTakesOf, Stopped, Heard, AreCallsFor, HasLeft}
-use Rattle.jup_served.specs.Sessions.{Ended, ServesSite, IsClientRun, IsServedRun, IsSessionHub}
+use Rattle.jup_session.specs.Sessions as sessions
+use Rattle.jup_served.specs.Sessions as served_sessions
 use Rattle.jup_served.proofs.Runs.{lines_spelled}
 use Rattle.jup_session.specs.Prelude.{BoardStar, Hello, line_bytes, board_lines, StreamFault, HasHeard, Keeper, HandsOn, Stops}
 use Rattle.jup_rules.specs.Prelude.{UpOp, DownOp, DownPong}
@@ -96,34 +96,34 @@ module _ (p : Plan) where
   join = entry p.number played.Join (played.JoinedReply (Ok answer))
 
   abbrev pub behind : played.View
-  behind = having_called p.before played.Join (played.JoinedReply (Ok answer)) given
+  behind = histories.having_called p.before played.Join (played.JoinedReply (Ok answer)) given
 
   abbrev pub leave : played.HubEvent
   leave = entry (0 ∷ p.number) (played.Leave p.joined.site) p.left
 
   abbrev pub read : played.View
-  read = record (after_split behind) { made = behind.made ++ p.takes }
+  read = record (histories.after_split behind) { made = behind.made ++ p.takes }
 
   abbrev pub back : played.View
-  back = record read { kept = tally (0 ∷ p.number) (p.fetches ++ leave ∷ []) ∷ [] }
+  back = record read { kept = histories.tally (0 ∷ p.number) (p.fetches ++ leave ∷ []) ∷ [] }
 
   abbrev pub saids : List played.Said
   saids = map (λ up. played.SaysUp up) p.ups
 
   abbrev pub lines : List played.Line
-  lines = welcome_lines p.joined ++ (lines_brought p.fetches ++ played.last_line played.Gone ∷ [])
+  lines = sessions.welcome_lines p.joined ++ (sessions.lines_brought p.fetches ++ played.last_line played.Gone ∷ [])
 
   -- what has to hold of it
   pub record IsPlain : Type 0 where
-    pub meets : Meets behind (with_call p.before given played.Join (played.JoinedReply (Ok answer)))
+    pub meets : histories.Meets behind (histories.with_call p.before given played.Join (played.JoinedReply (Ok answer)))
     pub spelled : played.AllByRecursion played.HasSpelling (said_lines saids)
     pub pieces : played.AllByRecursion IsPiece (map said_piece saids)
-    pub takes : AreTakesOf p.joined.site saids p.takes
-    pub fetches : AreFetchesFor p.joined.site p.fetches
-    pub last : LastLeavesNothing p.fetches
-    pub reading : AreCallsFor p.joined.site p.takes
-    pub writing : AreCallsFor p.joined.site (p.fetches ++ leave ∷ [])
-    pub leaves : HasLeft (p.fetches ++ leave ∷ [])
+    pub takes : sessions.AreTakesOf p.joined.site saids p.takes
+    pub fetches : sessions.AreFetchesFor p.joined.site p.fetches
+    pub last : sessions.LastLeavesNothing p.fetches
+    pub reading : sessions.AreCallsFor p.joined.site p.takes
+    pub writing : sessions.AreCallsFor p.joined.site (p.fetches ++ leave ∷ [])
+    pub leaves : sessions.HasLeft (p.fetches ++ leave ∷ [])
 
   module _ (is : IsPlain) where
     abbrev first_bytes : List ℕ
@@ -138,7 +138,7 @@ module _ (p : Plan) where
     abbrev keeper : Keeper
     keeper = (Some [], counted (count_by says_edit saids))
 
-    abbrev hears : Heard p.joined.site (at_bytes (later_bytes ++ [])) (after_split behind) (at_bytes []) read played.Gone None
+    abbrev hears : sessions.Heard p.joined.site (at_bytes (later_bytes ++ [])) (histories.after_split behind) (at_bytes []) read played.Gone None
     hears = inl (record {
       before = at_bytes [];
       pass = read;
@@ -154,7 +154,7 @@ module _ (p : Plan) where
         kept = refl;
         takes = is.takes;
       };
-      over = Stopped End at_end refl (record { early = λ e part. absurd (part refl); gone = λ e f. refl; fault = λ fault e. absurd (no_fault fault e) }) refl;
+      over = sessions.Stopped End at_end refl (record { early = λ e part. absurd (part refl); gone = λ e f. refl; fault = λ fault e. absurd (no_fault fault e) }) refl;
     })
 
     abbrev served : played.IsServed first_source given back played.Gone false played.all_done lines
@@ -162,8 +162,8 @@ module _ (p : Plan) where
       site = p.joined.site;
       greeted = at_bytes (later_bytes ++ []);
       behind = behind;
-      first = welcome_lines p.joined;
-      later = lines_brought p.fetches ++ played.last_line played.Gone ∷ [];
+      first = sessions.welcome_lines p.joined;
+      later = sessions.lines_brought p.fetches ++ played.last_line played.Gone ∷ [];
       welcomed = record {
         hello = hands_lines (Hello ∷ []) (later_bytes ++ []) (tt, tt);
         joined = p.joined;
@@ -196,7 +196,7 @@ module _ (p : Plan) where
     abbrev fresh : played.IsFresh (Some (first_bytes ++ (later_bytes ++ []))) first_source
     fresh = record { known = refl; read = record { spelled = tt; rest = (refl, no_part) }; waiting = refl; reads = refl }
 
-    abbrev pub plain : Ended
+    abbrev pub plain : served_sessions.Ended
     plain = record {
       from = Some (first_bytes ++ (later_bytes ++ []));
       old = Some [];
@@ -208,7 +208,7 @@ module _ (p : Plan) where
       undone = played.all_done;
       calls = record {
         calls = join ∷ p.takes;
-        others = tally (0 ∷ p.number) (p.fetches ++ leave ∷ []) ∷ [];
+        others = histories.tally (0 ∷ p.number) (p.fetches ++ leave ∷ []) ∷ [];
         number = refl;
         made = refl;
         kept = refl;
@@ -221,7 +221,7 @@ module _ (p : Plan) where
       };
     }
 
-    abbrev pub plain_serves : ServesSite plain
+    abbrev pub plain_serves : served_sessions.ServesSite plain
     plain_serves = record { start = first_source; fresh = fresh; served = served; is = refl }
 
     -- its client wrote all that it read
@@ -385,10 +385,10 @@ is_plain_two = record {
   leaves = inr (inl tt);
 }
 
-pub session_one : Ended
+pub session_one : served_sessions.Ended
 session_one = plain plan_one is_plain_one
 
-pub session_two : Ended
+pub session_two : served_sessions.Ended
 session_two = plain plan_two is_plain_two
 
 -- their lines
@@ -398,7 +398,7 @@ spelled_one = ((lit< tt, lit< tt), (lit< tt, ((lit< tt, tt), (tt, ((lit< tt, (li
 spelled_two : played.AllByRecursion played.HasSpelling (lines plan_two)
 spelled_two = ((lit< tt, lit< tt), (lit< tt, ((lit< tt, tt), (tt, ((lit< tt, (lit< tt, (lit≤ tt, lit≤ tt))), ((lit< tt, (lit< tt, tt)), (tt, tt)))))))
 
-pub hub : IsSessionHub false board 9 (session_one ∷ session_two ∷ []) log
+pub hub : served_sessions.IsSessionHub false board 9 (session_one ∷ session_two ∷ []) log
 unfolding session_one session_two
 hub = record {
   opens = opens;
@@ -420,7 +420,7 @@ causal_two : IsCausalThrough steps_two (start run_two)
 unfolding star_after
 causal_two = (record { up = lit≤ tt; down = lit≤ tt }, (record { up = lit≤ tt; down = lit≤ tt }, (record { up = lit≤ tt; down = lit≤ tt }, (record { up = lit≤ tt; down = lit≤ tt }, (record { up = lit≤ tt; down = lit≤ tt }, (record { up = lit≤ tt; down = lit≤ tt }, (record { up = lit≤ tt; down = lit≤ tt }, record { up = lit≤ tt; down = lit≤ tt })))))))
 
-pub served_one : IsServedRun run_one log session_one
+pub served_one : served_sessions.IsServedRun run_one log session_one
 unfolding session_one star_after
 served_one = record {
   serves = plain_serves plan_one is_plain_one;
@@ -443,7 +443,7 @@ served_one = record {
       limit = 9;
       body = board_lines board;
       is_body = (tt, (tt, tt));
-      lines = lines_brought (fetch_one ∷ []);
+      lines = sessions.lines_brought (fetch_one ∷ []);
       waiting = Bye ∷ [];
       progress = clean;
       reads = read_all plan_one is_plain_one spelled_one;
@@ -459,7 +459,7 @@ served_one = record {
   causal = causal_one;
 }
 
-pub served_two : IsServedRun run_two log session_two
+pub served_two : served_sessions.IsServedRun run_two log session_two
 unfolding session_two star_after
 served_two = record {
   serves = plain_serves plan_two is_plain_two;
@@ -482,7 +482,7 @@ served_two = record {
       limit = 9;
       body = board_lines board;
       is_body = (tt, (tt, tt));
-      lines = lines_brought (fetch_two ∷ []);
+      lines = sessions.lines_brought (fetch_two ∷ []);
       waiting = Bye ∷ [];
       progress = clean;
       reads = read_all plan_two is_plain_two spelled_two;
@@ -551,6 +551,6 @@ heard_last = record { said = None; is_synced = false; shown = Some (switch true)
 abbrev pub said_two : List played.Said
 said_two = mine ∷ []
 
-pub walk_two : IsClientRun steps_two client_first client_last said_two
+pub walk_two : served_sessions.IsClientRun steps_two client_first client_last said_two
 unfolding star_after
 walk_two = (client_made, mine ∷ [], [], (answer_made, (Ok (record { edit = edit_of (switch false); up = UpOp (message 0 0 (switch false)) }), (refl, refl), refl, refl, refl), refl), (client_made, [], [], (refl, refl), (client_made, [], [], (refl, refl), (client_made, [], [], (refl, refl), (client_made, [], [], (refl, refl), (client_made, [], [], (refl, refl), (client_last, [], [], (heard_last, (Ok (record { owed = None; shown = Some (switch true) }), (refl, refl), record { operations = refl; board = refl }, refl, refl), refl), (refl, refl), refl), refl), refl), refl), refl), refl), refl)

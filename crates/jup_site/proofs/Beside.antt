@@ -2,7 +2,7 @@
 use Rattle.std.proofs.Common.{◌≡◌, ℕ, ◌+◌, ◌≤◌, ◌⊎◌, inl, inr, Bool, true, false, List, ◌∷◌, ◌++◌, take, drop, length, nat_eq, refl, ap, sym, ◌∙◌, subst, Option, Some, None, option_map, arith, append_assoc, add-zero, take-append-drop, eqb-true, ne_eqb, eq-eqb}
 use Rattle.jup_site.specs.Prelude.{most_beyond, Operations, AreLawful, Up, UpOp, UpAck, UpPing, Down, DownOp, DownAck, DownPong, downs, LinkState, opened_link, link_of, operation_at, link_sent, link_fetched, link_acked, link_ponged, StarOf, joined, left, taken, up_fault, deliver_fault, found-end, found-end_other, found-without, found-without_other}
 use Rattle.jup_site.specs.Sites.{one_handed}
-use Rattle.jup_site.specs.Turns.{turns, told_count as last_told, Counts, brings}
+use Rattle.jup_site.specs.Turns as site_turns
 use Rattle.jup_site.specs.Sound.{SoundLinkAt, Standing}
 use Rattle.jup_site.proofs.Turns.{length-turns}
 use Rattle.jup_site.proofs.Pairs.Streams.{pair-asked}
@@ -29,7 +29,7 @@ module _ (O : Operations) (L : AreLawful O) (most : ℕ) (first : O.t.Content) (
 
     -- it receives it
     handed : (d : Down O.Op) (falling : List (Down O.Op)) → m.at.down ≡ d ∷ falling
-        → Standing O most first (turns i m.star.order) m.star.board m.mine since (m.shown + brings d) i m.link (one_handed O d falling m.at)
+        → Standing O most first (site_turns.turns i m.star.order) m.star.board m.mine since (m.shown + site_turns.brings d) i m.link (one_handed O d falling m.at)
     handed (DownOp x) falling e = places.place-shown O L most first m.star m.mine i since m.shown m.link m.at h.stands fits x 0 falling (ap (λ x. downs (x ++ m.link.outbox)) e)
     handed (DownAck n) falling e = rw (add-zero m.shown)
         (places.place-told O L most first m.star m.mine i since m.shown m.link m.at h.stands fits n 0 falling (ap (λ x. downs (x ++ m.link.outbox)) e))
@@ -39,7 +39,7 @@ module _ (O : Operations) (L : AreLawful O) (most : ℕ) (first : O.t.Content) (
     -- the star takes a message of another
     module _ (j : ℕ) (apart : nat_eq j i ≡ false) (l : LinkState O.Op) (fl : link_of j m.star.links ≡ Some l) where
       told_other : (up : Up O.Op) → up_fault O m.star l up ≡ None
-          → Standing O most first (turns i (taken O j up l m.star).order) (taken O j up l m.star).board m.mine since m.shown i (link_told O up l m.link) m.at
+          → Standing O most first (site_turns.turns i (taken O j up l m.star).order) (taken O j up l m.star).board m.mine since m.shown i (link_told O up l m.link) m.at
       told_other (UpOp x) none =
           let s = h.star.star in
           places.place-sent O L most first m.star m.mine i since m.shown m.link m.at h.stands fits s.counted j x (operation_at O l.end x)
@@ -49,7 +49,7 @@ module _ (O : Operations) (L : AreLawful O) (most : ℕ) (first : O.t.Content) (
       told_other (UpAck n) none = h.stands
       told_other (UpPing k) none = h.stands
 
-      told_counts : (up : Up O.Op) → Counts O (link_told O up l m.link) m.at
+      told_counts : (up : Up O.Op) → site_turns.Counts O (link_told O up l m.link) m.at
       told_counts (UpOp x) = counting.sent_counts O L m.link m.at (operation_at O l.end x) h.counts
       told_counts (UpAck n) = h.counts
       told_counts (UpPing k) = h.counts
@@ -76,14 +76,14 @@ module _ (O : Operations) (L : AreLawful O) (most : ℕ) (first : O.t.Content) (
   moves-beside m n (Edits command op ok) h = record {
     star = h.star;
     given = h.given;
-    stands = places.stand-makes O L most first (turns i m.star.order) m.star.board m.mine since m.shown i m.link m.at h.stands command op ok (omega (arith, length-turns i m.star.order, fits m h)) h.star.star.counted;
+    stands = places.stand-makes O L most first (site_turns.turns i m.star.order) m.star.board m.mine since m.shown i m.link m.at h.stands command op ok (omega (arith, length-turns i m.star.order, fits m h)) h.star.star.counted;
     counts = counting.edit_counts O L m.link m.at op h.counts;
     is = h.is;
   }
   moves-beside m n (Asks k) h = record {
     star = h.star;
     given = h.given;
-    stands = places.stand-pair O L most first (turns i m.star.order) m.star.board m.mine since m.shown i m.link m.at h.stands m.star.board m.mine m.link n.at
+    stands = places.stand-pair O L most first (site_turns.turns i m.star.order) m.star.board m.mine since m.shown i m.link m.at h.stands m.star.board m.mine m.link n.at
         (pair-asked O L most i first _ _ m.star.board m.mine m.link m.at h.stands.pair k);
     counts = counting.pinged_counts O L m.link m.at k h.counts;
     is = h.is;
@@ -116,7 +116,7 @@ module _ (O : Operations) (L : AreLawful O) (most : ℕ) (first : O.t.Content) (
     stands = places.place-fetched O L most first m.star m.mine i since m.shown m.link m.at h.stands (fits m h) k;
     counts = record {
       short = h.counts.short;
-      told = ap (λ z. last_told m.at.site.end.acknowledged z + m.link.end.unanswered)
+      told = ap (λ z. site_turns.told_count m.at.site.end.acknowledged z + m.link.end.unanswered)
           (append_assoc m.at.down (take k m.link.outbox) (drop k m.link.outbox) ∙ ap (λ z. m.at.down ++ z) (take-append-drop k m.link.outbox)) ∙ h.counts.told;
       sent = h.counts.sent;
     };

@@ -2,7 +2,7 @@
 use Rattle.std.proofs.Common.{◌≡◌, ℕ, ◌+◌, Bool, true, false, List, [], ◌∷◌, ◌++◌, drop, refl, ap, sym, ◌∙◌, None, arith, length-append, append_assoc, leb-true, leb-false, if◌then◌else◌}
 use Rattle.std.proofs.lemmas.Bool.{and_parts}
 use Rattle.jup_site.specs.Prelude.{answer_after, Ghosts, Msg, Link, IsCount, generated, accepts_count, after_ack, answered, owes, next_message, Comes, Operations, AreLawful, Down, DownOp, DownAck, DownPong, SiteBadOp as BadOp, test, LinkState, link_acked, link_ponged, link_fetched, link_sent, link_heard, end_after, running_test, heard_tests, deliver_tests, fits_shown, deliver_fault}
-use Rattle.jup_link.specs.Laws.Steps.{generated-after_count, generated-after_receive}
+use Rattle.jup_link.specs.Laws.Steps as link_laws
 use Rattle.jup_star.proofs.FaultTests.{all_hold}
 use Rattle.jup_site.specs.Sites.{AttachedOf, with_edit, one_taken, one_handed, pinged}
 use Rattle.jup_site.specs.Turns.{told_count, Counts}
@@ -86,12 +86,12 @@ module _ (O : Operations) (L : AreLawful O) where
       told = sym (ap (λ x. told_count a.site.end.acknowledged x + l.end.unanswered) e) ∙ c.told
 
       sent : a.site.made ≡ generated (end_after O a.site.end m)
-      sent = c.sent ∙ sym (generated-after_receive O.t a.site.end m.heard m.op
+      sent = c.sent ∙ sym (link_laws.generated-after_receive O.t a.site.end m.heard m.op
           (count_of a.site.end m.heard (all_hold (deliver_tests O a.site m ++ test (fits_shown O a.site m) BadOp ∷ []) none).1.1.0))
   handed_counts l a gone (DownAck n) ds e none c = record {
     short = c.short;
     told = sym (ap (λ x. told_count a.site.end.acknowledged x + l.end.unanswered) e) ∙ c.told;
-    sent = c.sent ∙ sym (generated-after_count O.t a.site.end n (count_of a.site.end n (all_hold (running_test a.site ∷ heard_tests a.site.end n) none).1.0));
+    sent = c.sent ∙ sym (link_laws.generated-after_count O.t a.site.end n (count_of a.site.end n (all_hold (running_test a.site ∷ heard_tests a.site.end n) none).1.0));
   }
   handed_counts l a gone (DownPong k) ds e none c = record {
     short = c.short;

@@ -4,11 +4,11 @@ use Rattle.jup_site.specs.Prelude.{Operations, AreLawful, Entry, Up, UpOp, UpAck
 use Rattle.jup_site.specs.Sound.{IsSoundStar}
 use Rattle.jup_site.specs.Moments.{Moment, Moves, newcomer, IsCalled, IsBeside}
 use Rattle.jup_site.specs.Courses.{Becomes, Rests, Admits, Drops, Gives, Accepts, Course, Member, number, since, BoardCourse, BoardMember, IsOpened, StarShows, IsTakenUnlessFull, SiteHolds, HasLink, Remains, KeepsOrder, AreAtOnce, ShowOneOrder}
-use Rattle.jup_site.proofs.Follows.{Follows, follows-same, follows-chain}
+use Rattle.jup_site.proofs.Follows as following
 use Rattle.jup_site.proofs.Stars as stars
 use Rattle.jup_site.proofs.Beside as beside_star
-use Rattle.jup_site.proofs.Later.{Later, later-self, later-chain, moves-later}
-use Rattle.jup_site.proofs.Past.{WasStar, was-new, Recalls, moves-recall, sites-agree}
+use Rattle.jup_site.proofs.Later as site_later
+use Rattle.jup_site.proofs.Past as past
 use Rattle.jup_window.specs.Laws.Entries.{only_site-held}
 use Rattle.jup_batch.specs.Boards.{batch_laws}
 use Rattle.jup_star.proofs.Stars.{board_small}
@@ -47,18 +47,18 @@ module _ (O : Operations) (L : AreLawful O) (most : ℕ) (first : O.t.Content) w
   -- a star that was, from which the present one went on
   pub record Was (z s : StarOf O) : Type 0 where
     pub sound : IsSoundStar O most first z
-    pub follows : Follows O L z s
+    pub follows : following.Follows O L z s
     pub more : List (Entry O.Edit)
     pub grows : s.order ≡ z.order ++ more
 
   pub was-self : (s : StarOf O) → IsCalled O most first s → Was s s
-  was-self s h = record { sound = h.star; follows = follows-same O L s s (omega arith) refl refl; more = []; grows = sym (append-nil s.order) }
+  was-self s h = record { sound = h.star; follows = following.follows-same O L s s (omega arith) refl refl; more = []; grows = sym (append-nil s.order) }
 
   was-on : (z s t : StarOf O) → Becomes O s t → IsCalled O most first s → Was z s → Was z t
   was-on z s t b h was =
       let adds = becomes-adds s t b in record {
         sound = was.sound;
-        follows = follows-chain O L z s t was.sound.board_known was.follows (becomes-grows s t b h).follows;
+        follows = following.follows-chain O L z s t was.sound.board_known was.follows (becomes-grows s t b h).follows;
         more = was.more ++ adds.more;
         grows = adds.grows ∙ ap (λ es. es ++ adds.more) was.grows ∙ append_assoc z.order was.more adds.more;
       }
@@ -135,16 +135,16 @@ module _ (O : Operations) (L : AreLawful O) (symmetric : (x y : O.State) → O.t
       | inr same ↦ subst (IsBeside O most first at i) (sym same) (member-beside n)
     ]
 
-    member-next : (n : ℕ) → Later O L most first at i (s.moment n) (s.moment (suc n))
+    member-next : (n : ℕ) → site_later.Later O L most first at i (s.moment n) (s.moment (suc n))
     member-next n = elim (s.goes n) [
-      | inl move ↦ moves-later O L most first at i (s.moment n) (s.moment (suc n)) (member-beside n) move
-      | inr same ↦ subst (Later O L most first at i (s.moment n)) (sym same) (later-self O L most first at i (s.moment n))
+      | inl move ↦ site_later.moves-later O L most first at i (s.moment n) (s.moment (suc n)) (member-beside n) move
+      | inr same ↦ subst (site_later.Later O L most first at i (s.moment n)) (sym same) (site_later.later-self O L most first at i (s.moment n))
     ]
 
-    pub member-later : (k n : ℕ) → Later O L most first at i (s.moment n) (s.moment (n + k))
-    member-later zero n = subst (λ t. Later O L most first at i (s.moment n) (s.moment t)) (sym (add-zero n)) (later-self O L most first at i (s.moment n))
-    member-later (suc k) n = subst (λ t. Later O L most first at i (s.moment n) (s.moment t)) (sym (plus n k))
-        (later-chain O L most first at i (s.moment n) (s.moment (n + k)) (s.moment (suc (n + k))) (member-beside n) (member-later k n) (member-next (n + k)))
+    pub member-later : (k n : ℕ) → site_later.Later O L most first at i (s.moment n) (s.moment (n + k))
+    member-later zero n = subst (λ t. site_later.Later O L most first at i (s.moment n) (s.moment t)) (sym (add-zero n)) (site_later.later-self O L most first at i (s.moment n))
+    member-later (suc k) n = subst (λ t. site_later.Later O L most first at i (s.moment n) (s.moment t)) (sym (plus n k))
+        (site_later.later-chain O L most first at i (s.moment n) (s.moment (n + k)) (s.moment (suc (n + k))) (member-beside n) (member-later k n) (member-next (n + k)))
 
     pub member-gone : (k n : ℕ) → link_of i (s.moment n).star.links ≡ None → link_of i (s.moment (n + k)).star.links ≡ None
     member-gone zero n none = subst (λ t. link_of i (s.moment t).star.links ≡ None) (sym (add-zero n)) none
@@ -155,14 +155,14 @@ module _ (O : Operations) (L : AreLawful O) (symmetric : (x y : O.State) → O.t
 
     -- it recalls all past stars
     abbrev Remembers : ℕ → Moment O → Type 0
-    Remembers t m = Recalls O L symmetric most first at i (λ k. star_when k t) m
+    Remembers t m = past.Recalls O L symmetric most first at i (λ k. star_when k t) m
 
     -- while the order stays they do
     remembers-on : (t : ℕ) (m : Moment O) → m.star ≡ c.star t → Remembers t m → Remembers (suc t) m
     remembers-on t m is r = record { long = λ k low. (each k low).0; was = λ k low. (each k low).1 }
       where
-        each : (k : ℕ) → k ≤ length m.star.order → (length (star_when k (suc t)).order ≡ k) × WasStar O L symmetric most first at i (star_when k (suc t)) m
-        each k low = subst (λ z. (length z.order ≡ k) × WasStar O L symmetric most first at i z m)
+        each : (k : ℕ) → k ≤ length m.star.order → (length (star_when k (suc t)).order ≡ k) × past.WasStar O L symmetric most first at i (star_when k (suc t)) m
+        each k low = subst (λ z. (length z.order ≡ k) × past.WasStar O L symmetric most first at i z m)
             (sym (when-stays k t (omega (arith, low, ap (λ (s : StarOf O). length s.order) is)))) (r.long k low, r.was k low)
 
     -- as it joins
@@ -170,10 +170,10 @@ module _ (O : Operations) (L : AreLawful O) (symmetric : (x y : O.State) → O.t
     joins-remembering = record { long = λ k low. (each k low).0; was = λ k low. (each k low).1 }
       where
         each : (k : ℕ) → k ≤ length (c.star s.joins).order
-            → (length (star_when k (suc s.joins)).order ≡ k) × WasStar O L symmetric most first at i (star_when k (suc s.joins)) (newcomer O (c.star s.joins))
-        each k low = subst (λ z. (length z.order ≡ k) × WasStar O L symmetric most first at i z (newcomer O (c.star s.joins))) (sym (when-stays k s.joins low))
+            → (length (star_when k (suc s.joins)).order ≡ k) × past.WasStar O L symmetric most first at i (star_when k (suc s.joins)) (newcomer O (c.star s.joins))
+        each k low = subst (λ z. (length z.order ≡ k) × past.WasStar O L symmetric most first at i z (newcomer O (c.star s.joins))) (sym (when-stays k s.joins low))
             (let was = before s.joins k low in
-            (was.0, was-new O L symmetric most first (c.star s.joins) (star-called s.joins) (star_when k s.joins) was.1.sound was.1.follows was.1.more was.1.grows))
+            (was.0, past.was-new O L symmetric most first (c.star s.joins) (star-called s.joins) (star_when k s.joins) was.1.sound was.1.follows was.1.more was.1.grows))
 
     pub member-remembers : (n : ℕ) → Remembers (suc (s.joins + n)) (s.moment n)
     member-remembers zero = subst (λ t. Remembers (suc t) (s.moment 0)) (sym (add-zero s.joins)) (subst (Remembers (suc s.joins)) (sym s.starts) joins-remembering)
@@ -181,7 +181,7 @@ module _ (O : Operations) (L : AreLawful O) (symmetric : (x y : O.State) → O.t
       where
         next : Remembers (suc (suc (s.joins + n))) (s.moment n) → Remembers (suc (suc (s.joins + n))) (s.moment (suc n))
         next now = elim (s.goes n) [
-          | inl move ↦ moves-recall O L symmetric most first at i (λ k. star_when k (suc (suc (s.joins + n)))) (s.moment n) (s.moment (suc n)) (member-beside n) move
+          | inl move ↦ past.moves-recall O L symmetric most first at i (λ k. star_when k (suc (suc (s.joins + n)))) (s.moment n) (s.moment (suc n)) (member-beside n) move
               (λ k high low. when-new k (suc (s.joins + n)) (omega (arith, high, ap (λ (s : StarOf O). length s.order) (s.at_star n)))
               ∙ sym (s.at_star (suc n) ∙ ap (λ t. c.star (suc t)) (plus s.joins n))) now
           | inr same ↦ subst (Remembers (suc (suc (s.joins + n)))) (sym same) now
@@ -192,9 +192,9 @@ module _ (O : Operations) (L : AreLawful O) (symmetric : (x y : O.State) → O.t
   module _ (a b : Member O c) (n k : ℕ) (time : a.joins + n ≡ b.joins + k) (apart : nat_eq (number O a) (number O b) ≡ false) where
     pub members-agree : O.t.keeps_order (a.moment n).at.site.board (b.moment k).at.site.board
     members-agree =
-        sites-agree O L symmetric most first (since O a) (since O b) (number O a) (number O b) apart (λ x. star_when x (suc (a.joins + n))) (a.moment n) (b.moment k)
+        past.sites-agree O L symmetric most first (since O a) (since O b) (number O a) (number O b) apart (λ x. star_when x (suc (a.joins + n))) (a.moment n) (b.moment k)
         (b.at_star k ∙ ap (λ t. c.star (suc t)) (sym time) ∙ sym (a.at_star n)) (member-beside a n) (member-beside b k) (member-remembers a n)
-        (subst (λ t. Recalls O L symmetric most first (since O b) (number O b) (λ x. star_when x (suc t)) (b.moment k)) (sym time) (member-remembers b k))
+        (subst (λ t. past.Recalls O L symmetric most first (since O b) (number O b) (λ x. star_when x (suc t)) (b.moment k)) (sym time) (member-remembers b k))
 
 module _ (c : BoardCourse) (is : IsOpened c) where
   -- the star as it is opened

@@ -4,7 +4,7 @@ use Rattle.std.proofs.lemmas.Bool.{ltb-true, ltb-false}
 use Rattle.jup_site.specs.Prelude.{most_unacknowledged, Msg, Link, IsCount, IsNumber, generated, accepts_count, received_operation, EditFault, Operations, AreLawful, UpOp, UpAck, DownOp, DownAck, DownPong, LogFull, BadOp, SiteBadOp, SiteOf, edit_answer, running_test, heard_tests, deliver_tests, fits_shown, deliver_fault, test, first_fault, LinkState, StarOf, fits_board, up_fault}
 use Rattle.jup_star.specs.Sites.{within_bounds}
 use Rattle.jup_star.specs.Faults.{Test, count_tests}
-use Rattle.jup_star.specs.Stars.{ack_tests, edit_tests, log_tests}
+use Rattle.jup_star.specs.Stars as stars
 use Rattle.jup_star.proofs.FaultTests.{AllHold, fault_after}
 use Rattle.jup_star.specs.Prelude.{accepts_number}
 use Rattle.jup_window.specs.declared.faults.EditFault.TheVariants.{Backlog, Spent, Stopped}
@@ -79,18 +79,18 @@ module _ (O : Operations) (L : AreLawful O) where
       → ((up_fault O star l (UpOp m) ≡ None) × (length star.order < star.limit)) ⊎ ((up_fault O star l (UpOp m) ≡ Some LogFull) × (star.limit ≤ length star.order))
   take_fits star l m number count something next valid = cases (nat_lt (length star.order) star.limit) refl
     where
-      before : AllHold (count_tests BadCount BadAck l.end m ++ edit_tests O l (O.t.edit_of m.op))
+      before : AllHold (count_tests BadCount BadAck l.end m ++ stars.edit_tests O l (O.t.edit_of m.op))
       before = (number_fits l.end m.mine number, (count_fits l.end m.heard count, (ap not something, (next, tt))))
 
       cases : (b : Bool) → nat_lt (length star.order) star.limit ≡ b
           → ((up_fault O star l (UpOp m) ≡ None) × (length star.order < star.limit)) ⊎ ((up_fault O star l (UpOp m) ≡ Some LogFull) × (star.limit ≤ length star.order))
       cases true room = inl (
-        no_fault (count_tests BadCount BadAck l.end m ++ (edit_tests O l (O.t.edit_of m.op) ++ (log_tests star.limit (length star.order) ++ test (fits_board O star.board l m) BadOp ∷ [])))
+        no_fault (count_tests BadCount BadAck l.end m ++ (stars.edit_tests O l (O.t.edit_of m.op) ++ (stars.log_tests star.limit (length star.order) ++ test (fits_board O star.board l m) BadOp ∷ [])))
             (before.0, (before.1.0, (before.1.1.0, (before.1.1.1.0, (room, ((L.decides _ star.board).1 valid, tt)))))),
         ltb-true _ _ room,
       )
-      cases false full = inr (first_to_fail (count_tests BadCount BadAck l.end m ++ edit_tests O l (O.t.edit_of m.op)) (test (nat_lt (length star.order) star.limit) LogFull) (test (fits_board O star.board l m) BadOp ∷ []) before full, ltb-false _ _ full)
+      cases false full = inr (first_to_fail (count_tests BadCount BadAck l.end m ++ stars.edit_tests O l (O.t.edit_of m.op)) (test (nat_lt (length star.order) star.limit) LogFull) (test (fits_board O star.board l m) BadOp ∷ []) before full, ltb-false _ _ full)
 
   -- the star takes an acknowledgement that fits
   pub take_ack : (star : StarOf O) (l : LinkState O.Op) (n : ℕ) → IsCount l.end n → up_fault O star l (UpAck n) ≡ None
-  take_ack star l n count = no_fault (ack_tests l.end n) (count_fits l.end n count, tt)
+  take_ack star l n count = no_fault (stars.ack_tests l.end n) (count_fits l.end n count, tt)

@@ -2,7 +2,7 @@
 use Rattle.std.proofs.Common.{◌≡◌, ℕ, ◌≤◌, List, [], ◌∷◌, sym, subst, arith, ◌+◌, ◌++◌, drop, take, length, zero, suc}
 use Rattle.std.proofs.lemmas.List.{take-append-le}
 use Rattle.jup_site.specs.Prelude.{Operations, AreLawful, StarOf}
-use Rattle.jup_site.specs.Turns.{turns, Turn, Own, Other, others, through_others}
+use Rattle.jup_site.specs.Turns as site_turns
 use Rattle.jup_site.specs.Sound.{named_by, IsKnown, told_of}
 use Rattle.jup_site.proofs.Pairs.Places.{told_end, told_within}
 
@@ -11,7 +11,7 @@ use Rattle.jup_site.proofs.Pairs.Places.{told_end, told_within}
 module _ (O : Operations) (L : AreLawful O) where
   -- a name that a star knows: of the layout, or of an entry of its order
   abbrev pub StarKnows : StarOf O → O.t.Name → Type 0
-  StarKnows star n = IsKnown O (λ j. named_by O 0 j (turns 0 star.order)) n
+  StarKnows star n = IsKnown O (λ j. named_by O 0 j (site_turns.turns 0 star.order)) n
 
   -- one star after another: numbers are given on, the order of items is kept, and no name that was known comes back
   pub record Follows (one two : StarOf O) : Type 0 where
@@ -25,7 +25,7 @@ module _ (O : Operations) (L : AreLawful O) where
   follows-same one two g b o = record {
     given = g;
     order = subst (λ x. O.t.keeps_order one.board x) (sym b) (L.keeps.order_self one.board);
-    knows = λ n k. subst (λ os. IsKnown O (λ j. named_by O 0 j (turns 0 os)) n) (sym o) k;
+    knows = λ n k. subst (λ os. IsKnown O (λ j. named_by O 0 j (site_turns.turns 0 os)) n) (sym o) k;
     none_back = λ n k h. subst (λ x. O.t.holds x n) b h;
   }
 
@@ -41,24 +41,24 @@ module _ (O : Operations) (L : AreLawful O) where
 -- What has reached a site, as the order and the number of those shown grow.
 
 -- further entries of others reach no less far
-through-more : {Edit : Type 0} → (n m : ℕ) (ts : List (Turn Edit)) → n ≤ m → through_others n ts ≤ through_others m ts
+through-more : {Edit : Type 0} → (n m : ℕ) (ts : List (site_turns.Turn Edit)) → n ≤ m → site_turns.through_others n ts ≤ site_turns.through_others m ts
 through-more zero m ts h = omega arith
 through-more (suc n) zero ts h = absurd (omega arith)
 through-more (suc n) (suc m) [] h = omega arith
-through-more (suc n) (suc m) (Own e ∷ ts) h = omega (arith, through-more (suc n) (suc m) ts h)
-through-more (suc n) (suc m) (Other j e ∷ ts) h = omega (arith, through-more n m ts (omega arith))
+through-more (suc n) (suc m) (site_turns.Own e ∷ ts) h = omega (arith, through-more (suc n) (suc m) ts h)
+through-more (suc n) (suc m) (site_turns.Other j e ∷ ts) h = omega (arith, through-more n m ts (omega arith))
 
 module _ (O : Operations) (L : AreLawful O) where
   -- a longer part of the order names no fewer
-  named_by-take : (i j k m : ℕ) (ts : List (Turn O.Edit)) → k ≤ m → named_by O i j (take k ts) ≤ named_by O i j (take m ts)
+  named_by-take : (i j k m : ℕ) (ts : List (site_turns.Turn O.Edit)) → k ≤ m → named_by O i j (take k ts) ≤ named_by O i j (take m ts)
   named_by-take i j zero m ts h = omega arith
   named_by-take i j (suc k) zero ts h = absurd (omega arith)
   named_by-take i j (suc k) (suc m) [] h = omega arith
-  named_by-take i j (suc k) (suc m) (Own e ∷ ts) h = omega (arith, named_by-take i j k m ts (omega arith))
-  named_by-take i j (suc k) (suc m) (Other s e ∷ ts) h = omega (arith, named_by-take i j k m ts (omega arith))
+  named_by-take i j (suc k) (suc m) (site_turns.Own e ∷ ts) h = omega (arith, named_by-take i j k m ts (omega arith))
+  named_by-take i j (suc k) (suc m) (site_turns.Other s e ∷ ts) h = omega (arith, named_by-take i j k m ts (omega arith))
 
   -- what is named among the entries that have reached a site, as the order and the number of those shown grow
-  pub told_more : (i j joined n m : ℕ) (ts us : List (Turn O.Edit)) → joined ≤ length ts → n ≤ length (others (drop joined ts)) → n ≤ m
+  pub told_more : (i j joined n m : ℕ) (ts us : List (site_turns.Turn O.Edit)) → joined ≤ length ts → n ≤ length (site_turns.others (drop joined ts)) → n ≤ m
       → named_by O i j (take (told_of O joined n ts) ts) ≤ named_by O i j (take (told_of O joined m (ts ++ us)) (ts ++ us))
   told_more i j joined n m ts us within shown more =
       let same : take (told_of O joined n ts) (ts ++ us) ≡ take (told_of O joined n ts) ts = take-append-le (told_of O joined n ts) ts us (told_within O L joined n ts within shown) in

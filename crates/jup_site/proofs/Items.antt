@@ -4,7 +4,6 @@ use Rattle.std.proofs.lemmas.Bool.{or_parts, or_from, and_from, and_parts}
 use Rattle.jup_site.specs.Prelude.{Name, Item, name_eq, InsertOp as Insert, DeleteOp as Delete, RelabelOp as Relabel, NoOp as NoSeqOp, has_site, only_site, BoardBatch, list_any, list_all}
 use Rattle.jup_value.specs.Items.{with_value}
 use Rattle.jup_window.specs.Entries.{change_at}
-use Rattle.jup_window.specs.Boards.{some_in_widget, every_in_widget, some_in_window, every_in_window}
 use Rattle.jup_window.specs.Widgets as widget
 use Rattle.jup_window.specs.Kinds as kind
 use Rattle.jup_window.specs.Boards as board
@@ -49,7 +48,7 @@ name_eq_self : (n : Name) → name_eq n n ≡ true
 name_eq_self n = and_from (n.site == n.site) (n.number == n.number) (eq-eqb n.site n.site refl) (eq-eqb n.number n.number refl)
 
 -- an operation that inserts no name of a site leaves none if there was none
-widget_none : (i : ℕ) (o : WidgetOp) (w : Widget) → ((n : Name) → kind.InsertsName (kind.edit_of o) n → n.site ≡ i → ⊥) → some_in_widget i w ≡ false → some_in_widget i (widget.after o w) ≡ false
+widget_none : (i : ℕ) (o : WidgetOp) (w : Widget) → ((n : Name) → kind.InsertsName (kind.edit_of o) n → n.site ≡ i → ⊥) → board.some_in_widget i w ≡ false → board.some_in_widget i (widget.after o w) ≡ false
 widget_none i (OnText (Insert p y)) (Text x) other none = none_insert (λ z. z.name.site == i) x.items p y none (ne_eqb y.name.site i (other y.name (name_eq_self y.name)))
 widget_none i (OnText (Delete p n)) (Text x) other none = none_remove (λ z. z.name.site == i) x.items p none
 widget_none i (OnText (Relabel p n v)) (Text x) other none = none_relabel (λ m. m.site == i) x.items p v none
@@ -73,7 +72,7 @@ none_change {A = A} p f k keeps (e ∷ es) none = step (e.0 == k) (or_parts (p e
 
 board_none : (i : ℕ) (o : BoardOp) (b : board.Windows) → ((n : board.Placed) → board.Inserts (board.edit_of o) n → n.name.site ≡ i → ⊥) → has_site i b ≡ false → has_site i (board.after o b) ≡ false
 board_none i o b other none =
-    none_change (some_in_window i) (λ ws. change_at o.wid (widget.after o.op) ws) o.win (λ ws. none_change (some_in_widget i) (widget.after o.op) o.wid (λ w. widget_none i o.op w inserted) ws) b none
+    none_change (board.some_in_window i) (λ ws. change_at o.wid (widget.after o.op) ws) o.win (λ ws. none_change (board.some_in_widget i) (widget.after o.op) o.wid (λ w. widget_none i o.op w inserted) ws) b none
   where
     here : ((o.win == o.win) && (o.wid == o.wid)) ≡ true
     here = and_from (o.win == o.win) (o.wid == o.wid) (eq-eqb o.win o.win refl) (eq-eqb o.wid o.wid refl)
@@ -99,12 +98,12 @@ all_none p q fails (x ∷ xs) all = let both = and_parts (p x) (list_all p xs) a
 other_site : {V : Type 0} (i : ℕ) → 0 < i → (x : Item V) → (x.name.site == 0) ≡ true → (x.name.site == i) ≡ false
 other_site i above x is = ne_eqb x.name.site i (λ same. let none : x.name.site ≡ 0 = eqb-true x.name.site 0 is in absurd (omega arith))
 
-other_widget : (i : ℕ) → 0 < i → (w : Widget) → every_in_widget 0 w ≡ true → some_in_widget i w ≡ false
+other_widget : (i : ℕ) → 0 < i → (w : Widget) → board.every_in_widget 0 w ≡ true → board.some_in_widget i w ≡ false
 other_widget i above (Text x) all = all_none (λ y. y.name.site == 0) (λ y. y.name.site == i) (other_site i above) x.items all
 other_widget i above (Labels x) all = all_none (λ y. y.name.site == 0) (λ y. y.name.site == i) (other_site i above) x.items all
 other_widget i above other all = refl
 
 pub layout_none : (i : ℕ) (b : board.Windows) → 0 < i → only_site 0 b ≡ true → has_site i b ≡ false
 layout_none i b above all =
-    all_none (λ e. every_in_window 0 e.1) (λ e. some_in_window i e.1)
-    (λ ws each. all_none (λ e. every_in_widget 0 e.1) (λ e. some_in_widget i e.1) (λ e one. other_widget i above e.1 one) ws.1 each) b all
+    all_none (λ e. board.every_in_window 0 e.1) (λ e. board.some_in_window i e.1)
+    (λ ws each. all_none (λ e. board.every_in_widget 0 e.1) (λ e. board.some_in_widget i e.1) (λ e one. other_widget i above e.1 one) ws.1 each) b all

@@ -5,9 +5,9 @@ use Rattle.jup_link.specs.Laws.Steps.{small_le, InStepAt-opened}
 use Rattle.jup_site.specs.Turns.{turns, edits, own_edits}
 use Rattle.jup_site.specs.Sites.{AttachedOf}
 use Rattle.jup_site.specs.Sound.{IsSoundStar, named_by, own_counts, ChangesKnown, HoldsKnown, Paired, told_of, Standing}
-use Rattle.jup_site.proofs.Turns.{edits-turns, length-turns, named-turns}
+use Rattle.jup_site.proofs.Turns as site_turns
 use Rattle.jup_site.proofs.Stars.{next}
-use Rattle.jup_site.proofs.Known.{known_more, all_changes_more, own_counts-above}
+use Rattle.jup_site.proofs.Known as known_names
 
 module _ (O : Operations) (L : AreLawful O) (most : ℕ) (first : O.t.Content) (s : StarOf O) (h : IsSoundStar O most first s) (i : ℕ) (next : i ≡ s.given + 1) (no_entry : own_edits (turns i s.order) ≡ []) where
   -- the site, with nothing on its way
@@ -20,16 +20,16 @@ module _ (O : Operations) (L : AreLawful O) (most : ℕ) (first : O.t.Content) (
 
   -- no entry bears a name of it
   no_name : named_by O i i (turns i s.order) ≡ 0
-  no_name = named-turns O L i 0 i s.order ∙ h.no_name i new
+  no_name = site_turns.named-turns O L i 0 i s.order ∙ h.no_name i new
 
   -- it knows what the star knows
   counts : (j : ℕ) → named_by O 0 j (turns 0 s.order) ≤ own_counts O i 0 (λ j. named_by O i j (turns i s.order)) j
   counts j =
-      let above = own_counts-above O L i 0 (λ j. named_by O i j (turns i s.order)) (omega (arith, no_name)) j in
-      omega (arith, named-turns O L 0 i j s.order)
+      let above = known_names.own_counts-above O L i 0 (λ j. named_by O i j (turns i s.order)) (omega (arith, no_name)) j in
+      omega (arith, site_turns.named-turns O L 0 i j s.order)
 
   knows : HoldsKnown O (own_counts O i 0 (λ j. named_by O i j (turns i s.order))) s.board
-  knows n x = known_more O L (λ j. named_by O 0 j (turns 0 s.order)) (own_counts O i 0 (λ j. named_by O i j (turns i s.order))) n counts (h.board_known n x)
+  knows n x = known_names.known_more O L (λ j. named_by O 0 j (turns 0 s.order)) (own_counts O i 0 (λ j. named_by O i j (turns i s.order))) n counts (h.board_known n x)
 
   -- and with nothing after it neither
   none_named : named_by O i i (turns i s.order ++ []) ≡ 0
@@ -50,21 +50,21 @@ module _ (O : Operations) (L : AreLawful O) (most : ℕ) (first : O.t.Content) (
     in_step = InStepAt-opened O.t L.lawful 0 s.board h.distinct (small_le O.t L.lawful 0 h.room s.board (omega arith) h.small);
     room = h.room;
     small = h.small;
-    enough = omega (arith, h.enough, length-append (turns i s.order) [], length-turns i s.order);
+    enough = omega (arith, h.enough, length-append (turns i s.order) [], site_turns.length-turns i s.order);
     raw = [];
     raw_sent = refl;
     row = tt;
     column = refl;
     all_made = sym (append-nil (own_edits (turns i s.order ++ [])) ∙ ap own_edits (append-nil (turns i s.order)) ∙ no_entry);
-    shows = h.content_is ∙ ap (O.t.meaning first) (edits-turns 0 i s.order ∙ sym (all_nil (edits (turns i s.order))));
+    shows = h.content_is ∙ ap (O.t.meaning first) (site_turns.edits-turns 0 i s.order ∙ sym (all_nil (edits (turns i s.order))));
     up_inherits = tt;
     down_inherits = tt;
     raw_named = none_named;
     rest_named = tt;
     board_known = knows;
     from_known = subst (λ k. HoldsKnown O (own_counts O i k (λ j. named_by O i j (turns i s.order))) s.board) (sym none_named) knows;
-    view_known = subst (AllByRecursion (ChangesKnown O (own_counts O i 0 (λ j. named_by O i j (turns i s.order))))) (edits-turns 0 i s.order ∙ sym (all_nil (edits (turns i s.order))))
-        (all_changes_more O L (λ j. named_by O 0 j (turns 0 s.order)) (own_counts O i 0 (λ j. named_by O i j (turns i s.order))) counts (edits (turns 0 s.order)) h.order_known);
+    view_known = subst (AllByRecursion (ChangesKnown O (own_counts O i 0 (λ j. named_by O i j (turns i s.order))))) (site_turns.edits-turns 0 i s.order ∙ sym (all_nil (edits (turns i s.order))))
+        (known_names.all_changes_more O L (λ j. named_by O 0 j (turns 0 s.order)) (own_counts O i 0 (λ j. named_by O i j (turns i s.order))) counts (edits (turns 0 s.order)) h.order_known);
     falling_foreign = tt;
     positive = omega (arith, next);
     site_number = refl;
@@ -82,9 +82,9 @@ module _ (O : Operations) (L : AreLawful O) (most : ℕ) (first : O.t.Content) (
     pair = subst (λ k. Paired O most i first (take k (turns i s.order)) (drop k (turns i s.order)) s.board [] (opened_link i) newcomer) (sym told)
         (subst (λ us. Paired O most i first us (drop (length (turns i s.order)) (turns i s.order)) s.board [] (opened_link i) newcomer) (sym (take_all (length (turns i s.order)) (turns i s.order) (le_refl _)))
         (subst (λ us. Paired O most i first (turns i s.order) us s.board [] (opened_link i) newcomer) (sym (drop_of_length-le (turns i s.order) (le_refl _))) new_pair));
-    joined_within = omega (arith, length-turns i s.order);
+    joined_within = omega (arith, site_turns.length-turns i s.order);
     shown_within = omega arith;
   }
     where
       told : told_of O (length s.order) 0 (turns i s.order) ≡ length (turns i s.order)
-      told = add-zero (length s.order) ∙ sym (length-turns i s.order)
+      told = add-zero (length s.order) ∙ sym (site_turns.length-turns i s.order)

@@ -8,7 +8,7 @@ use Rattle.jup_site.proofs.Turns.{turns-append}
 use Rattle.jup_site.proofs.Pairs.Grids.{first_falling}
 use Rattle.jup_site.proofs.Pairs.Edits as pairs
 use Rattle.jup_site.proofs.Pairs.Places.{room}
-use Rattle.jup_site.proofs.Follows.{Follows, follows-same, follows-chain, told_more}
+use Rattle.jup_site.proofs.Follows as following
 use Rattle.jup_site.specs.Moments.{Moment, Moves, Edits, Hands, Joins, Leaves, Fetches, FetchesOwn, Takes, TakesOwn, Runs, Stays, Then, told, Knows, IsBeside}
 use Rattle.jup_site.proofs.Stars as stars
 use Rattle.jup_site.proofs.Beside.{fits, moves-beside}
@@ -24,17 +24,17 @@ module _ (O : Operations) (L : AreLawful O) (most : ℕ) (first : O.t.Content) (
 
   -- a moment and a later one
   pub record Later (m n : Moment O) : Type 0 where
-    pub star : Follows O L m.star n.star
+    pub star : following.Follows O L m.star n.star
     pub order : O.t.keeps_order m.at.site.board n.at.site.board
     pub knows : (x : O.t.Name) → Knows O since i m x → Knows O since i n x
     pub none_back : (x : O.t.Name) → Knows O since i m x → O.t.holds n.at.site.board x → O.t.holds m.at.site.board x
 
   pub later-self : (m : Moment O) → Later m m
-  later-self m = record { star = follows-same O L m.star m.star (omega arith) refl refl; order = L.keeps.order_self m.at.site.board; knows = λ x k. k; none_back = λ x k held. held }
+  later-self m = record { star = following.follows-same O L m.star m.star (omega arith) refl refl; order = L.keeps.order_self m.at.site.board; knows = λ x k. k; none_back = λ x k held. held }
 
   pub later-chain : (m n o : Moment O) → IsBeside O most first since i m → Later m n → Later n o → Later m o
   later-chain m n o h f g = record {
-    star = follows-chain O L m.star n.star o.star h.star.star.board_known f.star g.star;
+    star = following.follows-chain O L m.star n.star o.star h.star.star.board_known f.star g.star;
     order = L.keeps.order_chain m.at.site.board n.at.site.board o.at.site.board f.order g.order (λ x here there. g.none_back x (f.knows x (h.stands.pair.board_known x here)) there);
     knows = λ x k. g.knows x (f.knows x k);
     none_back = λ x k there. f.none_back x k (g.none_back x (f.knows x k) there);
@@ -66,10 +66,10 @@ module _ (O : Operations) (L : AreLawful O) (most : ℕ) (first : O.t.Content) (
     where
       named : (k : ℕ) → named_by O i k (told O since i m) ≤ named_by O i k (told O since i n)
       named k = rw (g.grows, turns-append i m.star.order g.more)
-          (told_more O L i k since m.shown n.shown (turns i m.star.order) (turns i g.more) h.stands.joined_within h.stands.shown_within g.shown)
+          (following.told_more O L i k since m.shown n.shown (turns i m.star.order) (turns i g.more) h.stands.joined_within h.stands.shown_within g.shown)
 
   -- the star
-  pub moves-follow : (m n : Moment O) → IsBeside O most first since i m → Moves O i m n → Follows O L m.star n.star
+  pub moves-follow : (m n : Moment O) → IsBeside O most first since i m → Moves O i m n → following.Follows O L m.star n.star
   moves-follow m n h Joins = (stars.called-joined O L most first m.star h.star).follows
   moves-follow m n h (Leaves j) = (stars.called-left O L most first m.star h.star j).follows
   moves-follow m n h (Fetches j k apart) = (stars.called-fetched O L most first m.star h.star j k).follows

@@ -8,9 +8,9 @@ use Rattle.jup_site.specs.Sites.{AttachedOf, with_edit, one_handed}
 use Rattle.jup_site.specs.Sound.{named_by, named_in, IsKnown, own_counts, HoldsKnown, Inherits, told_of, IsSoundStar, Standing}
 use Rattle.jup_site.proofs.Known as known_names
 use Rattle.jup_site.proofs.Turns.{length-turns, turns-append, named-turns}
-use Rattle.jup_site.proofs.Pairs.Streams.{site_with, link_with, pair-streams}
+use Rattle.jup_site.proofs.Pairs.Streams as streams
 use Rattle.jup_site.proofs.Pairs.Places as places
-use Rattle.jup_site.proofs.Follows.{StarKnows, Follows, follows-same, follows-chain}
+use Rattle.jup_site.proofs.Follows as following
 use Rattle.jup_site.specs.Moments.{next_number, newcomer, Moment, Moves, Edits, Hands, FetchesOwn, Takes, TakesOwn, Runs, Stays, Then, told, told_count, Knows, IsCalled, IsBeside}
 use Rattle.jup_site.proofs.Beside.{moves-beside}
 use Rattle.jup_site.proofs.Later.{Later, moves-grow, moves-later}
@@ -30,11 +30,11 @@ module _ (O : Operations) (L : AreLawful O) where
 
   -- The site received all of it: it knows each name that the past star knew, and of these it holds none that this star did not hold.
   pub record IsTold (s : StarOf O) (knows : O.t.Name → Type 0) (b : AttachedOf O) : Type 0 where
-    pub since : known_names.Since O L (StarKnows O L s) s.board b.site.board
-    pub all : (n : O.t.Name) → StarKnows O L s n → knows n
+    pub since : known_names.Since O L (following.StarKnows O L s) s.board b.site.board
+    pub all : (n : O.t.Name) → following.StarKnows O L s n → knows n
 
   -- once all is delivered, it stays so as the site goes on
-  pub told_on : (s : StarOf O) (knows knows' : O.t.Name → Type 0) (a b : AttachedOf O) → (known : (n : O.t.Name) → O.t.holds s.board n → StarKnows O L s n)
+  pub told_on : (s : StarOf O) (knows knows' : O.t.Name → Type 0) (a b : AttachedOf O) → (known : (n : O.t.Name) → O.t.holds s.board n → following.StarKnows O L s n)
       → O.t.keeps_order a.site.board b.site.board → ((n : O.t.Name) → knows n → knows' n) → ((n : O.t.Name) → knows n → O.t.holds b.site.board n → O.t.holds a.site.board n)
       → IsTold s knows a → IsTold s knows' b
   told_on s knows knows' a b known order more none_back t = record {
@@ -50,10 +50,10 @@ module _ (O : Operations) (L : AreLawful O) where
       → Standing O most first (turns i s.order) s.board mine joined shown i l a → IsBeingTold most first s i joined shown l a
   telling_now most first s mine i joined shown l a st = record {
     mine = mine;
-    link = link_with O L l l.end [];
-    site = site_with O L a a.site.end a.up (a.down ++ l.outbox);
-    stands = places.stand-pair O L most first (turns i s.order) s.board mine joined shown i l a st s.board mine (link_with O L l l.end []) (site_with O L a a.site.end a.up (a.down ++ l.outbox))
-        (pair-streams O L most i first _ _ s.board mine l a st.pair a.up (a.down ++ l.outbox) [] refl (ap downs (append-nil (a.down ++ l.outbox))));
+    link = streams.link_with O L l l.end [];
+    site = streams.site_with O L a a.site.end a.up (a.down ++ l.outbox);
+    stands = places.stand-pair O L most first (turns i s.order) s.board mine joined shown i l a st s.board mine (streams.link_with O L l l.end []) (streams.site_with O L a a.site.end a.up (a.down ++ l.outbox))
+        (streams.pair-streams O L most i first _ _ s.board mine l a st.pair a.up (a.down ++ l.outbox) [] refl (ap downs (append-nil (a.down ++ l.outbox))));
     outbox = refl;
     same = refl;
     later = [];
@@ -209,7 +209,7 @@ module _ (O : Operations) (L : AreLawful O) (symmetric : (x y : O.State) → O.t
   -- A star that was, from which the present one went on. The site received all that it had sent, or still has some of it to receive
   pub record WasStar (z : StarOf O) (m : Moment O) : Type 0 where
     pub sound : IsSoundStar O most first z
-    pub follows : Follows O L z m.star
+    pub follows : following.Follows O L z m.star
     pub more : List (Entry O.Edit)
     pub grows : m.star.order ≡ z.order ++ more
     pub told : IsBeingTold O L most first z i since m.shown m.link m.at ⊎ IsTold O L z (Knows O since i m) m.at
@@ -218,7 +218,7 @@ module _ (O : Operations) (L : AreLawful O) (symmetric : (x y : O.State) → O.t
   pub was-now : (m : Moment O) → IsBeside O most first since i m → WasStar m.star m
   was-now m h = record {
     sound = h.star.star;
-    follows = follows-same O L m.star m.star (omega arith) refl refl;
+    follows = following.follows-same O L m.star m.star (omega arith) refl refl;
     more = [];
     grows = sym (append-nil m.star.order);
     told = inl (telling_now O L most first m.star m.mine i since m.shown m.link m.at h.stands);
@@ -239,7 +239,7 @@ module _ (O : Operations) (L : AreLawful O) (symmetric : (x y : O.State) → O.t
         (sym (turns_same O L symmetric most first z was.sound i since m.shown m.link m.at t m.star.order was.more was.grows)) k
 
     -- if as many entries have reached the site as the star had, the star showed what it knew of all that the site shows
-    pub was-since : told_count O since i m ≡ length z.order → known_names.Since O L (StarKnows O L z) z.board m.at.site.board
+    pub was-since : told_count O since i m ≡ length z.order → known_names.Since O L (following.StarKnows O L z) z.board m.at.site.board
     was-since e = elim was.told [
       | inl t ↦ (all_told O L symmetric most first z was.sound i since m.shown m.link m.at t (Knows O since i m) (bridge t)
           (sym (told_same O L symmetric most first z was.sound i since m.shown m.link m.at t m.star.order was.more was.grows) ∙ e)).since
@@ -276,7 +276,7 @@ module _ (O : Operations) (L : AreLawful O) (symmetric : (x y : O.State) → O.t
       let grown = moves-grow O L most first since i m n move in
       record {
         sound = was.sound;
-        follows = follows-chain O L z m.star n.star was.sound.board_known was.follows later.star;
+        follows = following.follows-chain O L z m.star n.star was.sound.board_known was.follows later.star;
         more = was.more ++ grown.more;
         grows = grown.grows ∙ ap (λ es. es ++ grown.more) was.grows ∙ append_assoc z.order was.more grown.more;
         told = elim was.told [ inl t ↦ tells z m n was h move t | inr t ↦ inr (told_later z m n was later t) ];
@@ -338,14 +338,14 @@ module _ (O : Operations) (L : AreLawful O) (symmetric : (x y : O.State) → O.t
   told_whole : told O (length s.order) i (newcomer O s) ≡ turns i s.order
   told_whole = ap (λ k. take k (turns i s.order)) (add-zero (length s.order) ∙ sym (length-turns i s.order)) ∙ take_all (length (turns i s.order)) (turns i s.order) (le_refl _)
 
-  knows_now : (x : O.t.Name) → StarKnows O L s x → Knows O (length s.order) i (newcomer O s) x
+  knows_now : (x : O.t.Name) → following.StarKnows O L s x → Knows O (length s.order) i (newcomer O s) x
   knows_now x k = subst (λ ts. IsKnown O (own_counts O i 0 (λ n. named_by O i n ts)) x) (sym told_whole)
       (known_names.known_more O L (λ n. named_by O 0 n (turns 0 s.order)) (own_counts O i 0 (λ n. named_by O i n (turns i s.order))) x counts k)
     where
       counts : (n : ℕ) → named_by O 0 n (turns 0 s.order) ≤ own_counts O i 0 (λ n. named_by O i n (turns i s.order)) n
       counts n = let up = known_names.own_counts-above O L i 0 (λ n. named_by O i n (turns i s.order)) (omega (arith, no_name)) n in omega (arith, named-turns O L 0 i n s.order)
 
-  pub was-new : (z : StarOf O) → IsSoundStar O most first z → Follows O L z s → (more : List (Entry O.Edit)) → s.order ≡ z.order ++ more
+  pub was-new : (z : StarOf O) → IsSoundStar O most first z → following.Follows O L z s → (more : List (Entry O.Edit)) → s.order ≡ z.order ++ more
       → WasStar O L symmetric most first (length s.order) i z (newcomer O s)
   was-new z sound follows more grows = record {
     sound = sound;
@@ -371,7 +371,7 @@ module _ (O : Operations) (L : AreLawful O) (symmetric : (x y : O.State) → O.t
 
   -- a name that both sites know is known to a star whose order had all the entries that have reached either
   knows_both : (z : StarOf O) → WasStar O L symmetric most first since i z m → WasStar O L symmetric most first later j z n → told_count O since i m ≤ length z.order → told_count O later j n ≤ length z.order
-      → (x : O.t.Name) → Knows O since i m x → Knows O later j n x → StarKnows O L z x
+      → (x : O.t.Name) → Knows O since i m x → Knows O later j n x → following.StarKnows O L z x
   knows_both z wa wb low high x (inl q) there = inl q
   knows_both z wa wb low high x (inr p) (inl q) = inl q
   knows_both z wa wb low high x (inr p) (inr k) = inr (cases (nat_eq (O.site_of x) i) refl p (nat_eq (O.site_of x) j) refl k)

@@ -3,8 +3,8 @@ use Rattle.std.proofs.Common.{sym, ◌≡◌, ◌⊎◌, ℕ, ◌+◌, ◌≤◌
 use Rattle.jup_site.specs.Prelude.{most_beyond, Msg, after_send, after_count, answered, Comes, Comes-nil, Operations, AreLawful, Windows, board_batches, Up, UpOp, UpAck, UpPing, ups, LinkState, operation_at, end_after, link_heard, link_sent, link_acked, link_ponged, StarOf, up_fault, entry, taken, link_of, joined}
 use Rattle.jup_site.specs.Turns.{turns}
 use Rattle.jup_site.specs.Sites.{AttachedOf, one_taken}
-use Rattle.jup_site.specs.Sound.{named_by, named_in, HoldsKnown, SoundLinkAt, IsSoundStar, Standing}
-use Rattle.jup_site.proofs.Known.{known_more, star_counts, pair_order, sent_all}
+use Rattle.jup_site.specs.Sound as soundness
+use Rattle.jup_site.proofs.Known as known_names
 use Rattle.jup_site.proofs.Stars.{valid, inserts, next, same, changes}
 use Rattle.jup_site.proofs.Turns.{named-turns}
 use Rattle.jup_site.proofs.Pairs.Places.{past, rest, whole, place-taken, place-acked, place-asked, place-sent}
@@ -30,7 +30,7 @@ module _ (O : Operations) (L : AreLawful O) where
     pub mine : List O.Edit
     pub link : LinkState O.Op
     pub site : AttachedOf O
-    pub stands : Standing O most first (turns i s.order) s.board mine joined shown i link site
+    pub stands : soundness.Standing O most first (turns i s.order) s.board mine joined shown i link site
     pub board : site.site.board ≡ x
     pub goes : GoesOn link site ol oa
 
@@ -50,7 +50,7 @@ module _ (O : Operations) (L : AreLawful O) where
     known = λ n here. f.knows n (t.known n here);
   }
 
-  module _ (symmetric : (x y : O.State) → O.t.keeps_order x y → O.t.keeps_order y x) (most : ℕ) (first : O.t.Content) (s : StarOf O) (sound : IsSoundStar O most first s) (i : ℕ) (x : O.State)
+  module _ (symmetric : (x y : O.State) → O.t.keeps_order x y → O.t.keeps_order y x) (most : ℕ) (first : O.t.Content) (s : StarOf O) (sound : soundness.IsSoundStar O most first s) (i : ℕ) (x : O.State)
       (ol : Option (LinkState O.Op)) (oa : Option (AttachedOf O)) (h : IsBeingTaken most first s i x ol oa) where
     -- there is room for what may still come
     fits : length s.order + most_beyond ≤ most
@@ -58,25 +58,25 @@ module _ (O : Operations) (L : AreLawful O) where
 
     -- the star knows what its board holds, counted as the site counts
     abbrev counts : ℕ → ℕ
-    counts = star_counts O L symmetric most i first (past O L most first s h.mine i h.joined h.shown h.link h.site h.stands fits) (rest O L most first s h.mine i h.joined h.shown h.link h.site h.stands fits)
+    counts = known_names.star_counts O L symmetric most i first (past O L most first s h.mine i h.joined h.shown h.link h.site h.stands fits) (rest O L most first s h.mine i h.joined h.shown h.link h.site h.stands fits)
         s.board h.mine h.link h.site h.stands.pair
 
-    counted : (j : ℕ) → counts j ≡ named_in O s.order j
-    counted j = ap (named_by O i j) (whole O L most first s h.mine i h.joined h.shown h.link h.site h.stands fits) ∙ named-turns O L i 0 j s.order
+    counted : (j : ℕ) → counts j ≡ soundness.named_in O s.order j
+    counted j = ap (soundness.named_by O i j) (whole O L most first s h.mine i h.joined h.shown h.link h.site h.stands fits) ∙ named-turns O L i 0 j s.order
 
-    held_known : HoldsKnown O counts s.board
-    held_known n held = known_more O L (named_in O s.order) counts n (λ j. omega (arith, counted j)) (sound.board_known n held)
+    held_known : soundness.HoldsKnown O counts s.board
+    held_known n held = known_names.known_more O L (soundness.named_in O s.order) counts n (λ j. omega (arith, counted j)) (sound.board_known n held)
 
     -- the past board and the star's show in one order what both show
     pub taking_order : O.t.keeps_order x s.board
-    taking_order = subst (λ y. O.t.keeps_order y s.board) h.board (pair_order O L symmetric most i first _ _ s.board h.mine h.link h.site h.stands.pair held_known)
+    taking_order = subst (λ y. O.t.keeps_order y s.board) h.board (known_names.pair_order O L symmetric most i first _ _ s.board h.mine h.link h.site h.stands.pair held_known)
 
     -- if nothing is left on its way of what the site had sent, all is taken
     pub all_taken : h.site.up ≡ [] → IsTaken s x
     all_taken none = record {
       order = taking_order;
-      known = λ n held. known_more O L counts (named_in O s.order) n (λ j. omega (arith, counted j))
-          (sent_all O L symmetric most i first _ _ s.board h.mine h.link h.site h.stands.pair nothing n (subst (λ y. O.t.holds y n) (sym h.board) held));
+      known = λ n held. known_names.known_more O L counts (soundness.named_in O s.order) n (λ j. omega (arith, counted j))
+          (known_names.sent_all O L symmetric most i first _ _ s.board h.mine h.link h.site h.stands.pair nothing n (subst (λ y. O.t.holds y n) (sym h.board) held));
     }
       where
         nothing : h.stands.pair.site_ahead ≡ []
@@ -92,8 +92,8 @@ module _ (O : Operations) (L : AreLawful O) where
       mine = h.mine;
       link = h.link;
       site = h.site;
-      stands = subst (λ y. Standing O most first (turns i v.order) y h.mine h.joined h.shown i h.link h.site) (sym b)
-          (subst (λ es. Standing O most first (turns i es) s.board h.mine h.joined h.shown i h.link h.site) (sym o) h.stands);
+      stands = subst (λ y. soundness.Standing O most first (turns i v.order) y h.mine h.joined h.shown i h.link h.site) (sym b)
+          (subst (λ es. soundness.Standing O most first (turns i es) s.board h.mine h.joined h.shown i h.link h.site) (sym o) h.stands);
       board = h.board;
       goes = g;
     }
@@ -115,7 +115,7 @@ module _ (O : Operations) (L : AreLawful O) where
     }
       where
         positive : 1 ≤ j
-        positive = (subst (λ o. SoundLinkAt O s.order j o) fl (sound.links j)).positive
+        positive = (subst (λ o. soundness.SoundLinkAt O s.order j o) fl (sound.links j)).positive
 
         sent : (o : Option (LinkState O.Op)) → GoesOn h.link h.site o oa → GoesOn (link_sent (operation_at O l.end m) h.link) h.site (option_map (λ k. link_sent (operation_at O l.end m) k) o) oa
         sent None g k e = absurd (cc)
@@ -164,7 +164,7 @@ module _ (O : Operations) (L : AreLawful O) where
           mine = h.mine;
           link = link_heard O m h.link;
           site = one_taken O h.site;
-          stands = subst (λ z. Standing O most first (turns i (s.order ++ entry O i m ∷ [])) (O.t.after (operation_at O z m) s.board) h.mine h.joined h.shown i (link_heard O m h.link) (one_taken O h.site)) same_end
+          stands = subst (λ z. soundness.Standing O most first (turns i (s.order ++ entry O i m ∷ [])) (O.t.after (operation_at O z m) s.board) h.mine h.joined h.shown i (link_heard O m h.link) (one_taken O h.site)) same_end
               (place-taken O L most first s h.mine i h.joined h.shown h.link h.site h.stands fits m more.0 more.2);
           board = h.board;
           goes = on (link_heard O m h.link) (link_heard O m l) (ap (λ z. answered (end_after O z m)) same_end) (UpOp m) us more.0 more.1 e more.2 more.3;

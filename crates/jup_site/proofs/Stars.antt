@@ -3,7 +3,7 @@ use Rattle.std.proofs.Common.{◌≡◌, ℕ, ◌+◌, ◌<◌, ◌≤◌, inl, 
 use Rattle.jup_site.specs.Prelude.{most_beyond, row_operation, row_entries, past, opposite, Msg, Link, unheard, answered, after_ack, owes, Operations, AreLawful, Entry, UpOp, BadOp, LinkState, opened_link, link_acked, link_ponged, link_fetched, StarOf, new_star, link_of, at_link, with_links, left, joined, fetched, operation_at, link_heard, link_sent, fits_board, up_fault, taken, links_after, entry, test, found-map, found-map_other, found-without, found-without_other, found-end, found-end_other, AllByRecursion, Up, UpAck, UpPing}
 use Rattle.jup_link.specs.Laws.Steps.{small_next}
 use Rattle.jup_star.specs.Stars.{early_tests}
-use Rattle.jup_star.proofs.FaultTests.{link_site, inserted_at, taken_valid, AllHold, all_hold}
+use Rattle.jup_star.proofs.FaultTests as fault_tests
 use Rattle.jup_site.specs.Sound.{ChangesKnown, named_in, edits_in, IsMoved, IsSoundLink, SoundLinkAt, IsSoundStar, SameMeaning, named_by, IsKnown, ChangesHeld, HoldsKnown}
 use Rattle.jup_site.specs.Turns.{Own, Other, turn, turns, edits, own_edits}
 use Rattle.jup_site.specs.Moments.{IsCalled}
@@ -166,8 +166,8 @@ module _ (O : Operations) (L : AreLawful O) (most : ℕ) (first : O.t.Content) (
   q = unheard l.end m.heard
 
   -- all that was asked holds
-  passed : AllHold (early_tests O s.limit (length s.order) l m ++ test (fits_board O s.board l m) BadOp ∷ [])
-  passed = all_hold (early_tests O s.limit (length s.order) l m ++ test (fits_board O s.board l m) BadOp ∷ []) none
+  passed : fault_tests.AllHold (early_tests O s.limit (length s.order) l m ++ test (fits_board O s.board l m) BadOp ∷ [])
+  passed = fault_tests.all_hold (early_tests O s.limit (length s.order) l m ++ test (fits_board O s.board l m) BadOp ∷ []) none
 
   pub room : length s.order < s.limit
   room = ltb-true _ _ passed.1.1.1.1.0
@@ -181,15 +181,15 @@ module _ (O : Operations) (L : AreLawful O) (most : ℕ) (first : O.t.Content) (
 
   -- it is valid at the star
   pub valid : O.t.is_valid op s.board
-  valid = taken_valid O L s l m none
+  valid = fault_tests.taken_valid O L s l m none
 
   -- it inserts what its edit does
   pub inserts : (n : O.t.Name) → O.t.inserts (O.t.edit_of op) n → O.t.inserts meant n
-  inserts n put = inserted_at O L l.end m n put
+  inserts n put = fault_tests.inserted_at O L l.end m n put
 
   -- the edit bears the link's next names
   pub next : IsTrue (O.bears_next i (named_in O s.order i) meant)
-  next = subst (λ k. IsTrue (O.bears_next i k meant)) linked.named (subst (λ k. IsTrue (O.bears_next k l.named meant)) (link_site i l s.links fl) passed.1.1.1.0)
+  next = subst (λ k. IsTrue (O.bears_next i k meant)) linked.named (subst (λ k. IsTrue (O.bears_next k l.named meant)) (fault_tests.link_site i l s.links fl) passed.1.1.1.0)
 
   -- it means the edit after the order
   pub same : SameMeaning O (edits_in O s.order ++ O.t.edit_of op ∷ []) (edits_in O s.order ++ meant ∷ [])

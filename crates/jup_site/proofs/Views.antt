@@ -5,19 +5,19 @@ use Rattle.jup_site.specs.Prelude.{InStepAt, Operations, AreLawful, StarOf, Link
 use Rattle.jup_link.specs.Laws.Steps.{quiet_equal, client_generated}
 use Rattle.jup_site.specs.Turns.{Turn, turns, edits, own_edits, told_count as last_told}
 use Rattle.jup_site.specs.Sites.{AttachedOf}
-use Rattle.jup_site.specs.Sound.{edits_sent, told_of, Standing, IsSoundStar, named_by, named_in, HoldsKnown}
-use Rattle.jup_site.proofs.Known.{known_more, star_counts, pair_order}
+use Rattle.jup_site.specs.Sound as soundness
+use Rattle.jup_site.proofs.Known as known_names
 use Rattle.jup_site.proofs.Turns.{named-turns}
 use Rattle.jup_site.proofs.Counts.{no_operations}
 use Rattle.jup_site.proofs.Pairs.Grids.{own_edits-append}
-use Rattle.jup_site.proofs.Pairs.Places.{place-accepted, place-ack_fits}
+use Rattle.jup_site.proofs.Pairs.Places as places
 use Rattle.jup_site.specs.Moments.{Moment, view, IsBeside}
 use Rattle.jup_site.proofs.Beside.{fits}
 
 module _ (O : Operations) (L : AreLawful O) (most : ℕ) (first : O.t.Content) (since i shown : ℕ) (s : StarOf O) (mine : List O.Edit) (l : LinkState O.Op) (a : AttachedOf O)
-    (st : Standing O most first (turns i s.order) s.board mine since shown i l a) where
+    (st : soundness.Standing O most first (turns i s.order) s.board mine since shown i l a) where
   abbrev seen : ℕ
-  seen = told_of O since shown (turns i s.order)
+  seen = soundness.told_of O since shown (turns i s.order)
 
   abbrev past : List (Turn O.Edit)
   past = take seen (turns i s.order)
@@ -45,20 +45,20 @@ module _ (O : Operations) (L : AreLawful O) (most : ℕ) (first : O.t.Content) (
   stands-whole up =
       let made_is : mine ≡ own_edits (turns i s.order) ++ st.pair.raw = st.pair.all_made
       ∙ ap (λ ts. own_edits ts ++ st.pair.raw) (take-append-drop seen (turns i s.order)) in
-      let none : st.pair.raw ≡ [] = sym st.pair.raw_sent ∙ ap (λ r. edits_sent O (ups r)) up in
+      let none : st.pair.raw ≡ [] = sym st.pair.raw_sent ∙ ap (λ r. soundness.edits_sent O (ups r)) up in
       sym (made_is ∙ ap (λ es. own_edits (turns i s.order) ++ es) none ∙ append-nil (own_edits (turns i s.order)))
 
   -- what it shows and what the star shows are in one order
-  module _ (symmetric : (x y : O.State) → O.t.keeps_order x y → O.t.keeps_order y x) (sound : IsSoundStar O most first s) where
+  module _ (symmetric : (x y : O.State) → O.t.keeps_order x y → O.t.keeps_order y x) (sound : soundness.IsSoundStar O most first s) where
     -- the star knows what its board holds, counted as the site counts
-    counted : (j : ℕ) → star_counts O L symmetric most i first past rest s.board mine l a st.pair j ≡ named_in O s.order j
-    counted j = ap (named_by O i j) (take-append-drop seen (turns i s.order)) ∙ named-turns O L i 0 j s.order
+    counted : (j : ℕ) → known_names.star_counts O L symmetric most i first past rest s.board mine l a st.pair j ≡ soundness.named_in O s.order j
+    counted j = ap (soundness.named_by O i j) (take-append-drop seen (turns i s.order)) ∙ named-turns O L i 0 j s.order
 
-    held_known : HoldsKnown O (star_counts O L symmetric most i first past rest s.board mine l a st.pair) s.board
-    held_known n held = known_more O L (named_in O s.order) (star_counts O L symmetric most i first past rest s.board mine l a st.pair) n (λ j. omega (arith, counted j)) (sound.board_known n held)
+    held_known : soundness.HoldsKnown O (known_names.star_counts O L symmetric most i first past rest s.board mine l a st.pair) s.board
+    held_known n held = known_names.known_more O L (soundness.named_in O s.order) (known_names.star_counts O L symmetric most i first past rest s.board mine l a st.pair) n (λ j. omega (arith, counted j)) (sound.board_known n held)
 
     pub stands-order : O.t.keeps_order a.site.board s.board
-    stands-order = pair_order O L symmetric most i first past rest s.board mine l a st.pair held_known
+    stands-order = known_names.pair_order O L symmetric most i first past rest s.board mine l a st.pair held_known
 
 -- # A moment of a site
 
@@ -70,10 +70,10 @@ module _ (O : Operations) (L : AreLawful O) (most : ℕ) (first : O.t.Content) (
   -- its oldest message is taken, or the order is full
   pub beside-answers : (x : Msg O.Op) (us : List (Up O.Op)) → m.at.up ≡ UpOp x ∷ us
       → ((up_fault O m.star m.link (UpOp x) ≡ None) × (length m.star.order < m.star.limit)) ⊎ ((up_fault O m.star m.link (UpOp x) ≡ Some LogFull) × (m.star.limit ≤ length m.star.order))
-  beside-answers x us e = place-accepted O L most first m.star m.mine i since m.shown m.link m.at h.stands (fits O L most first since i m h) x us e
+  beside-answers x us e = places.place-accepted O L most first m.star m.mine i since m.shown m.link m.at h.stands (fits O L most first since i m h) x us e
 
   pub beside-heard : (n : ℕ) (us : List (Up O.Op)) → m.at.up ≡ UpAck n ∷ us → up_fault O m.star m.link (UpAck n) ≡ None
-  beside-heard n us e = place-ack_fits O L most first m.star m.mine i since m.shown m.link m.at h.stands (fits O L most first since i m h) n us e
+  beside-heard n us e = places.place-ack_fits O L most first m.star m.mine i since m.shown m.link m.at h.stands (fits O L most first since i m h) n us e
 
   -- with nothing on its way it is level with the star, which has all its edits
   pub beside-equal : m.at.up ≡ [] → m.at.down ≡ [] → m.link.outbox ≡ [] → m.at.site.board ≡ m.star.board

@@ -8,8 +8,8 @@ use Rattle.jup_star.specs.declared.site.Made.{Made}
 use Rattle.jup_star.specs.declared.site.Delivered.{Delivered}
 use Rattle.jup_star.specs.declared.undelivered.Undelivered.{Undelivered}
 use Rattle.jup_star.specs.declared.undelivered.Undelivered.TheVariants.{NoMemory as HandedBack, Fault}
-use Rattle.jup_star.specs.declared.faults.SiteFault.TheVariants.{NoMemory as SiteNoMemory, BadCount, BadAck, BadName, Stopped}
-use Rattle.jup_star.specs.Sites.{edit_reply, site_edited, is_edit_memory, EditAnswers, deliver_reply, site_delivered, DeliverAnswers, owed_of}
+use Rattle.jup_star.specs.declared.faults.SiteFault.TheVariants as site_fault
+use Rattle.jup_star.specs.Sites as star_sites
 use Rattle.jup_wire.specs.declared.line.Line.TheVariants as line
 use Rattle.jup_wire.specs.Lines.{HasSpelling}
 use Rattle.jup_wire.proofs.Streams.{all-append, on_the_way}
@@ -17,11 +17,11 @@ use Rattle.jup_layout.specs.Drafts.{item_lines, widget_lines, window_lines, boar
 use Rattle.jup_layout.proofs.Boards.{round_trip}
 use Rattle.jup_gather.specs.Gathering.{Piece, Message, Alone, piece_lines, all_lines, IsPiece, HasGathered, up_piece, up_in, up_way, down_piece, down_in, down_way, IsSound}
 use Rattle.jup_gather.proofs.Gathering.{one_piece}
-use Rattle.jup_honest.specs.Sites.{Step, Connection, after, Begins, IsReliable, IsReliableThrough, IsCausalThrough, SiteRun, IsHonest, opening, calls, start, now, sent_as_made, sent_as_handed}
+use Rattle.jup_honest.specs.Sites as sites
 use Rattle.jup_honest.proofs.Backlogs.{causal_through}
 use Rattle.jup_client.specs.declared.client.Told.TheVariants as told
 use Rattle.jup_stream.specs.Saying.{said_piece}
-use Rattle.jup_client.specs.Clients.{telling, edit_answer, AnswersEdit, heard_answer, Delivers, IsOpened}
+use Rattle.jup_client.specs.Clients as clients
 use Rattle.jup_socket.specs.Sockets.{IsWithinBoard, all_said, said_lines, UpSocket, IsLast, greeting, messages_down, written_down, DownSocket, AtSocket, AtSocketThrough, said_of_answer, said_of_heard, IsEditStep, IsDeliverStep}
 use Rattle.jup_client.specs.Prelude.{BoardBatch, UpOp, UpAck, UpPing, DownOp, DownAck, DownPong, SiteFault, LayoutFault}
 use Rattle.jup_honest.specs.Prelude.{Commands, Windows, board_batches, IsOpening, IsLegal}
@@ -144,7 +144,7 @@ no_bye (UpAck n) e = cc
 no_bye (UpPing k) e = cc
 
 -- messages whose pieces come first among those of a client's come first among them
-ups_first : (sent taken : List (Up BoardBatch)) (bye : Bool) (rest : List Piece) → map said_piece (all_said sent bye) ≡ map said_piece (map (λ up. SaysUp up) taken) ++ rest → Begins sent taken
+ups_first : (sent taken : List (Up BoardBatch)) (bye : Bool) (rest : List Piece) → map said_piece (all_said sent bye) ≡ map said_piece (map (λ up. SaysUp up) taken) ++ rest → sites.Begins sent taken
 ups_first sent [] bye rest e = (sent, refl)
 ups_first [] (t ∷ ts) true rest e = absurd (no_bye t (head_of (Alone line.Bye) (up_piece t) [] _ e))
 ups_first [] (t ∷ ts) false rest e = absurd (cc)
@@ -153,7 +153,7 @@ ups_first (s ∷ ss) (t ∷ ts) bye rest e =
     let later = ups_first ss ts bye rest (tail_of (up_piece s) (up_piece t) _ _ e) in
     (later.0, ap (λ u. u ∷ ss) first ∙ ap (λ us. t ∷ us) later.1)
 
-pub up_reliable : (a : Connection) → UpSocket a → Begins a.sent a.taken
+pub up_reliable : (a : sites.Connection) → UpSocket a → sites.Begins a.sent a.taken
 up_reliable a u =
     let saying : List Said = all_said a.sent u.bye in
     let way = on_the_way u.read u.left (line.Hello ∷ (u.lines ++ u.waiting)) (line.Hello ∷ said_lines saying) u.progress u.spelled u.reads u.bytes in
@@ -195,7 +195,7 @@ same_down : (d f : Down BoardBatch) → down_piece d ≡ down_piece f → d ≡ 
 same_down d f e = let same : Some d ≡ Some f = sym (down_way d).again ∙ ap down_in e ∙ (down_way f).again in cc
 
 downs_first : (fetched handed : List (Down BoardBatch)) (last : List Line) (rest : List Piece) → AllByRecursion IsLast last
-    → map down_piece fetched ++ map (λ l. Alone l) last ≡ map down_piece handed ++ rest → Begins fetched handed
+    → map down_piece fetched ++ map (λ l. Alone l) last ≡ map down_piece handed ++ rest → sites.Begins fetched handed
 downs_first fetched [] last rest ends e = (fetched, refl)
 downs_first [] (t ∷ ts) [] rest ends e = absurd (cc)
 downs_first [] (t ∷ ts) (l ∷ ls) rest ends e = absurd (no_last t l ends.0 (head_of (Alone l) (down_piece t) _ _ e))
@@ -204,7 +204,7 @@ downs_first (d ∷ ds) (t ∷ ts) last rest ends e =
     let later = downs_first ds ts last rest ends (tail_of (down_piece d) (down_piece t) _ _ e) in
     (later.0, ap (λ u. u ∷ ds) first ∙ ap (λ us. t ∷ us) later.1)
 
-module _ (answer : Joined) (a : Connection) (d : DownSocket answer a) where
+module _ (answer : Joined) (a : sites.Connection) (d : DownSocket answer a) where
   -- what is left of the lines after those that were read
   rest : List Line
   rest = (on_the_way d.received.read d.left (greeting d.received.site d.received.limit d.received.body ++ (d.received.lines ++ d.received.waiting)) (written_down answer a.fetched d.last) d.received.progress d.spelled d.received.reads d.bytes).1.0
@@ -244,7 +244,7 @@ module _ (answer : Joined) (a : Connection) (d : DownSocket answer a) where
       ∙ ap (λ ls. messages_down a.fetched ++ ls) (lone_lines d.last)
       ∙ parts.1 ∙ append_assoc d.received.lines d.received.waiting rest
 
-  pub down_reliable : Begins a.fetched a.handed
+  pub down_reliable : sites.Begins a.fetched a.handed
   down_reliable =
       let first = gathered_first d.received.lines (d.received.waiting ++ rest) (map down_piece d.received.downs) (map down_piece a.fetched ++ map (λ l. Alone l) d.last) d.received.held d.received.said
       (all-append IsPiece (map down_piece a.fetched) (map (λ l. Alone l) d.last) (downs_are_pieces a.fetched spelled_down) (lasts_are_pieces d.last d.ends)) all_pieces in
@@ -254,19 +254,19 @@ module _ (answer : Joined) (a : Connection) (d : DownSocket answer a) where
 
 -- # Both
 
-pub at_reliable : (answer : Joined) (a : Connection) → AtSocket answer a → IsReliable a
+pub at_reliable : (answer : Joined) (a : sites.Connection) → AtSocket answer a → sites.IsReliable a
 at_reliable answer a s = record { up = up_reliable a s.up; down = down_reliable answer a s.down }
 
-pub through_reliable : (answer : Joined) (ms : List Step) (a : Connection) → AtSocketThrough answer ms a → IsReliableThrough ms a
+pub through_reliable : (answer : Joined) (ms : List sites.Step) (a : sites.Connection) → AtSocketThrough answer ms a → sites.IsReliableThrough ms a
 through_reliable answer [] a s = at_reliable answer a s
-through_reliable answer (m ∷ ms) a s = (at_reliable answer a s.0, through_reliable answer ms (after m a) s.1)
+through_reliable answer (m ∷ ms) a s = (at_reliable answer a s.0, through_reliable answer ms (sites.after m a) s.1)
 
-pub socket_run : (y : SiteRun) → IsOpening y.board → y.limit ≤ highest_limit → IsLegal (opening y) (calls y) → AtSocketThrough y.answer y.steps (start y) → IsHonest y
-socket_run y opens limited legal s = record { opens = opens; limited = limited; legal = legal; reliable = through_reliable y.answer y.steps (start y) s }
+pub socket_run : (y : sites.SiteRun) → IsOpening y.board → y.limit ≤ highest_limit → IsLegal (sites.opening y) (sites.calls y) → AtSocketThrough y.answer y.steps (sites.start y) → sites.IsHonest y
+socket_run y opens limited legal s = record { opens = opens; limited = limited; legal = legal; reliable = through_reliable y.answer y.steps (sites.start y) s }
 
-pub causal_run : (y : SiteRun) → IsOpening y.board → y.limit ≤ highest_limit → IsLegal (opening y) (calls y) → IsCausalThrough y.steps (start y) → AtSocket y.answer (now y) → IsHonest y
+pub causal_run : (y : sites.SiteRun) → IsOpening y.board → y.limit ≤ highest_limit → IsLegal (sites.opening y) (sites.calls y) → sites.IsCausalThrough y.steps (sites.start y) → AtSocket y.answer (sites.now y) → sites.IsHonest y
 causal_run y opens limited legal causal s =
-    record { opens = opens; limited = limited; legal = legal; reliable = causal_through y.steps (start y) causal (at_reliable y.answer (now y) s) }
+    record { opens = opens; limited = limited; legal = legal; reliable = causal_through y.steps (sites.start y) causal (at_reliable y.answer (sites.now y) s) }
 
 -- What a client does for an edit and for a message is a step of its site.
 
@@ -275,36 +275,36 @@ said_owed : (owed : Option (Up BoardBatch)) → option_to_list (option_map (λ u
 said_owed None = refl
 said_owed (Some up) = refl
 
-pub edit_step : (commands : Commands) (c d : ClientState) (r : Result Answer ClientEnd) → AnswersEdit commands c r d → IsEditStep commands c r d
+pub edit_step : (commands : Commands) (c d : ClientState) (r : Result Answer ClientEnd) → clients.AnswersEdit commands c r d → IsEditStep commands c r d
 edit_step commands c d r h = cases h.0 h.1 h.2
   where
-    cases : (o : Result Made EditFault) → EditAnswers commands c.site d.site o → r ≡ edit_answer o → IsEditStep commands c r d
-    cases (Ok made) e is = inr (e.1, ap said_of_answer is ∙ ap (λ m. map (λ up. SaysUp up) (sent_as_made m)) e.0)
-    cases (Err fault) e is = go (is_edit_memory fault) refl e
+    cases : (o : Result Made EditFault) → star_sites.EditAnswers commands c.site d.site o → r ≡ clients.edit_answer o → IsEditStep commands c r d
+    cases (Ok made) e is = inr (e.1, ap said_of_answer is ∙ ap (λ m. map (λ up. SaysUp up) (sites.sent_as_made m)) e.0)
+    cases (Err fault) e is = go (star_sites.is_edit_memory fault) refl e
       where
-        go : (b : Bool) → is_edit_memory fault ≡ b → MatchBool b ((d.site ≡ c.site) × (is_ok (site_answer board_batches commands c.site) ≡ true)) ((Err fault ≡ edit_reply commands c.site) × (d.site ≡ site_edited commands c.site)) → IsEditStep commands c r d
-        go true f k = inl (is ∙ ap (λ b. if b then Err NoMemory else Ok (telling (told.Refused fault))) f, k.0)
-        go false f k = inr (k.1, ap said_of_answer (is ∙ ap (λ b. if b then Err NoMemory else Ok (telling (told.Refused fault))) f) ∙ ap (λ m. map (λ up. SaysUp up) (sent_as_made m)) k.0)
+        go : (b : Bool) → star_sites.is_edit_memory fault ≡ b → MatchBool b ((d.site ≡ c.site) × (is_ok (site_answer board_batches commands c.site) ≡ true)) ((Err fault ≡ star_sites.edit_reply commands c.site) × (d.site ≡ star_sites.site_edited commands c.site)) → IsEditStep commands c r d
+        go true f k = inl (is ∙ ap (λ b. if b then Err NoMemory else Ok (clients.telling (told.Refused fault))) f, k.0)
+        go false f k = inr (k.1, ap said_of_answer (is ∙ ap (λ b. if b then Err NoMemory else Ok (clients.telling (told.Refused fault))) f) ∙ ap (λ m. map (λ up. SaysUp up) (sites.sent_as_made m)) k.0)
 
-pub deliver_step : (down : Down BoardBatch) (c d : ClientState) (r : Result Heard ClientEnd) → Delivers down c r d → IsDeliverStep down c r d
+pub deliver_step : (down : Down BoardBatch) (c d : ClientState) (r : Result Heard ClientEnd) → clients.Delivers down c r d → IsDeliverStep down c r d
 deliver_step down c d r h = cases h.0 h.1 h.3
   where
-    refused : (fault : SiteFault) → (d.site ≡ site_delivered down c.site) → Err fault ≡ deliver_reply down c.site → r ≡ heard_answer c.pings down (Err (Fault fault)) → IsDeliverStep down c r d
-    refused fault site reply is = inr (site, ap said_of_heard is ∙ ap (λ m. map (λ up. SaysUp up) (sent_as_handed m)) reply)
+    refused : (fault : SiteFault) → (d.site ≡ star_sites.site_delivered down c.site) → Err fault ≡ star_sites.deliver_reply down c.site → r ≡ clients.heard_answer c.pings down (Err (Fault fault)) → IsDeliverStep down c r d
+    refused fault site reply is = inr (site, ap said_of_heard is ∙ ap (λ m. map (λ up. SaysUp up) (sites.sent_as_handed m)) reply)
 
-    cases : (o : Result Delivered Undelivered) → DeliverAnswers down c.site d.site (owed_of o) → r ≡ heard_answer c.pings down o → IsDeliverStep down c r d
-    cases (Ok delivered) e is = inr (e.1, ap said_of_heard is ∙ said_owed (option_map UpAck delivered.owed) ∙ ap (λ m. map (λ up. SaysUp up) (sent_as_handed m)) e.0)
+    cases : (o : Result Delivered Undelivered) → star_sites.DeliverAnswers down c.site d.site (star_sites.owed_of o) → r ≡ clients.heard_answer c.pings down o → IsDeliverStep down c r d
+    cases (Ok delivered) e is = inr (e.1, ap said_of_heard is ∙ said_owed (option_map UpAck delivered.owed) ∙ ap (λ m. map (λ up. SaysUp up) (sites.sent_as_handed m)) e.0)
     cases (Err (HandedBack back)) e is = inl (is, e.0)
-    cases (Err (Fault SiteNoMemory)) e is = inl (is, e.0)
-    cases (Err (Fault BadCount)) e is = refused BadCount e.1 e.0 is
-    cases (Err (Fault BadAck)) e is = refused BadAck e.1 e.0 is
-    cases (Err (Fault BadName)) e is = refused BadName e.1 e.0 is
+    cases (Err (Fault site_fault.NoMemory)) e is = inl (is, e.0)
+    cases (Err (Fault site_fault.BadCount)) e is = refused site_fault.BadCount e.1 e.0 is
+    cases (Err (Fault site_fault.BadAck)) e is = refused site_fault.BadAck e.1 e.0 is
+    cases (Err (Fault site_fault.BadName)) e is = refused site_fault.BadName e.1 e.0 is
     cases (Err (Fault BadOp)) e is = refused BadOp e.1 e.0 is
-    cases (Err (Fault Stopped)) e is = refused Stopped e.1 e.0 is
+    cases (Err (Fault site_fault.Stopped)) e is = refused site_fault.Stopped e.1 e.0 is
 
 -- as it is opened
-pub opened_client : (y : SiteRun) (c : ClientState) → IsBoard y.answer.board → length (board_lines y.answer.board) < 4294967295 → y.answer.board ≡ bare y.answer.board
-    → IsOpened y.answer.site y.answer.limit (board_lines y.answer.board) (Ok c) → c.site ≡ (start y).site
+pub opened_client : (y : sites.SiteRun) (c : ClientState) → IsBoard y.answer.board → length (board_lines y.answer.board) < 4294967295 → y.answer.board ≡ bare y.answer.board
+    → clients.IsOpened y.answer.site y.answer.limit (board_lines y.answer.board) (Ok c) → c.site ≡ (sites.start y).site
 opened_client y c is short bared h =
     let windows : h.0 ≡ y.answer.board = same_ok h.0 y.answer.board (board_with (board_lines y.answer.board)) h.1 (round_trip y.answer.board is short ∙ ap (λ b. Ok b) (sym bared)) in
     ap (λ (d : ClientState). d.site) h.3 ∙ ap (λ b. opened_site y.answer.site y.answer.limit b) windows

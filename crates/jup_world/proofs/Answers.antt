@@ -10,7 +10,7 @@ use Rattle.jup_star.specs.Messages.{UpRelabelsNoText}
 use Rattle.jup_star.specs.Stars.{BoardLink, reply_of, star_after, take_result, after_take, fetch_result}
 use Rattle.jup_world.specs.Sound.{edit_reply}
 use Rattle.jup_world.specs.Boards.{BoardAttached, BoardReply}
-use Rattle.jup_world.specs.Happenings.{with_answer, refilled_from, refilled, fetched_for, refilled_star}
+use Rattle.jup_world.specs.Happenings as happenings
 
 -- What the answers of a site and of the star say.
 
@@ -24,7 +24,7 @@ pub edit_made : (command : Commands) (s t : BoardSite) (made : Made) → EditAns
 edit_made command s t made answers = made_same (edit_answer board_batches command s) s made answers.0
 
 sent_same : (r : Result BoardBatch EditFault) (a : BoardAttached) (t : BoardSite) (ups : List (Up BoardBatch)) (made : Made) → ◌≡◌ {A = Result Made EditFault} (Ok made) (made_result a.site r) → t ≡ after_edit a.site r → ups ≡ a.up ++ made.up ∷ []
-    → ◌≡◌ {A = BoardAttached} (record { site = t; up = ups; down = a.down }) (with_answer r a)
+    → ◌≡◌ {A = BoardAttached} (record { site = t; up = ups; down = a.down }) (happenings.with_answer r a)
 sent_same (Ok op) a t ups made e f g =
     let same : made ≡ made_by op a.site = cc in
     let all = g ∙ ap (λ (m : Made). a.up ++ m.up ∷ []) same in
@@ -32,14 +32,14 @@ sent_same (Ok op) a t ups made e f g =
 sent_same (Err n) a t ups made e f g = absurd (cc)
 
 pub edit_sent : (command : Commands) (a : BoardAttached) (t : BoardSite) (ups : List (Up BoardBatch)) (made : Made) → EditAnswers command a.site t (Ok made) → ups ≡ a.up ++ made.up ∷ []
-    → ◌≡◌ {A = BoardAttached} (record { site = t; up = ups; down = a.down }) (with_answer (edit_answer board_batches command a.site) a)
+    → ◌≡◌ {A = BoardAttached} (record { site = t; up = ups; down = a.down }) (happenings.with_answer (edit_answer board_batches command a.site) a)
 edit_sent command a t ups made answers g = sent_same (edit_answer board_batches command a.site) a t ups made answers.0 answers.1 g
 
 refused_reply : (r : Result BoardBatch EditFault) (s : BoardSite) (n : EditFault) → ◌≡◌ {A = Result Made EditFault} (Err n) (made_result s r) → ◌≡◌ {A = BoardReply} (Refused n) (edit_reply board_batches r)
 refused_reply (Ok op) s n e = absurd (cc)
 refused_reply (Err m) s n e = ap (λ (k : EditFault). Refused k) (let same : n ≡ m = cc in same)
 
-refused_same : (r : Result BoardBatch EditFault) (a : BoardAttached) (t : BoardSite) (n : EditFault) → ◌≡◌ {A = Result Made EditFault} (Err n) (made_result a.site r) → t ≡ after_edit a.site r → ◌≡◌ {A = BoardAttached} (record a { site = t }) (with_answer r a)
+refused_same : (r : Result BoardBatch EditFault) (a : BoardAttached) (t : BoardSite) (n : EditFault) → ◌≡◌ {A = Result Made EditFault} (Err n) (made_result a.site r) → t ≡ after_edit a.site r → ◌≡◌ {A = BoardAttached} (record a { site = t }) (happenings.with_answer r a)
 refused_same (Ok op) a t n e f = absurd (cc)
 refused_same (Err m) a t n e f = λ i. record { site = f i; up = a.up; down = a.down }
 
@@ -50,7 +50,7 @@ edit_refused command s t fault refusal other same answers =
     ap (λ (f : EditFault). Refused f) same ∙ refused_reply (edit_answer board_batches command s) s fault call.0
 
 pub edit_stays : (command : Commands) (a : BoardAttached) (t : BoardSite) (ups : List (Up BoardBatch)) (fault : EditFault) → is_edit_memory fault ≡ false → EditAnswers command a.site t (Err fault) → ups ≡ a.up
-    → ◌≡◌ {A = BoardAttached} (record { site = t; up = ups; down = a.down }) (with_answer (edit_answer board_batches command a.site) a)
+    → ◌≡◌ {A = BoardAttached} (record { site = t; up = ups; down = a.down }) (happenings.with_answer (edit_answer board_batches command a.site) a)
 edit_stays command a t ups fault other answers same =
     let call = rw other at answers in
     (λ i. record { site = t; up = same i; down = a.down }) ∙ refused_same (edit_answer board_batches command a.site) a t fault call.0 call.1
@@ -154,15 +154,15 @@ fetch_linked i s t fault linked memory answers = let call = rw memory at answers
 -- # A down stream that was empty
 
 pub filled : (a : BoardAttached) (l : BoardLink) (downs : List (Down BoardBatch)) → a.down ≡ [] → downs ≡ take 1 l.outbox
-    → ◌≡◌ {A = BoardAttached} (record { site = a.site; up = a.up; down = downs }) (refilled l a)
+    → ◌≡◌ {A = BoardAttached} (record { site = a.site; up = a.up; down = downs }) (happenings.refilled l a)
 filled a l downs empty e =
-    let all = e ∙ ap (λ (ds : List (Down BoardBatch)). refilled_from ds l.outbox) (sym empty) in
+    let all = e ∙ ap (λ (ds : List (Down BoardBatch)). happenings.refilled_from ds l.outbox) (sym empty) in
     λ i. record { site = a.site; up = a.up; down = all i }
 
-pub filled_star : (a : BoardAttached) (l : BoardLink) (s t : BoardStar) → a.down ≡ [] → (l.outbox ≡ [] → ⊥) → t ≡ fetched a.site.number 1 s → t ≡ refilled_star l a s
-filled_star a l s t empty waits e = e ∙ there l.outbox waits ∙ ap (λ (ds : List (Down BoardBatch)). fetched_for a.site.number ds l.outbox s) (sym empty)
+pub filled_star : (a : BoardAttached) (l : BoardLink) (s t : BoardStar) → a.down ≡ [] → (l.outbox ≡ [] → ⊥) → t ≡ fetched a.site.number 1 s → t ≡ happenings.refilled_star l a s
+filled_star a l s t empty waits e = e ∙ there l.outbox waits ∙ ap (λ (ds : List (Down BoardBatch)). happenings.fetched_for a.site.number ds l.outbox s) (sym empty)
   where
-    there : (os : List (Down BoardBatch)) → (os ≡ [] → ⊥) → fetched a.site.number 1 s ≡ fetched_for a.site.number [] os s
+    there : (os : List (Down BoardBatch)) → (os ≡ [] → ⊥) → fetched a.site.number 1 s ≡ happenings.fetched_for a.site.number [] os s
     there [] not_empty = absurd (not_empty refl)
     there (d ∷ os) not_empty = refl
 

@@ -3,7 +3,7 @@ use Rattle.std.proofs.Common.{◌≡◌, ℕ, List, [], ◌∷◌, refl, ap, sym
 use Rattle.jup_world.specs.Prelude.{Operations, Entry, Up, Down, DownOp, DownAck, DownPong, StarFault, LinkState, link_of, join_fault, up_fault, left, taken, place_taken, edit_answer, deliver_fault, EditFault, NoJoin, Left, Refused, Detached, Nothing}
 use Rattle.jup_world.specs.Events.{Join, Leave, Edit as MakeEdit, Up as MoveUp, Down as MoveDown, Ping as SendPing, JoinStray, Stray, LeaveStray}
 use Rattle.jup_world.specs.Worlds.{WorldOf, EventOf, ReplyOf, HappenedOf, attached, without_site, Outcome, unchanged, join_outcome, edit_outcome, place_reply, up_outcome, first_up, down_outcome, first_down, ping_outcome, stray_joins, stray_sends, at_stray, at_attached, at_linked, at_number, outcome, AttachedOf, one_taken, one_handed}
-use Rattle.jup_world.specs.Traces.{edit_made, entry_taken, join_seen, was_shown}
+use Rattle.jup_world.specs.Traces as traces
 use Rattle.jup_site.proofs.Numbers.{map_absent, filter_absent, either, result_cases}
 
 -- What an event does: nothing, or one of few steps of a link and of the site under its number. No other file has the case analysis.
@@ -17,10 +17,10 @@ module _ (O : Operations) where
 
   -- an event of which the definitions over the trace see nothing
   pub record IsSilent (event : EventOf O) (reply : ReplyOf O) : Type 0 where
-    pub no_edit : (i : ℕ) → edit_made i event reply ≡ []
-    pub no_join : (i n at : ℕ) → join_seen i n at event reply ≡ at
-    pub no_shown : (i : ℕ) → was_shown i event reply ≡ 0
-    pub no_entry : (past : List (HappenedOf O)) (order : List (Entry O.Edit)) → entry_taken O past order event reply ≡ []
+    pub no_edit : (i : ℕ) → traces.edit_made i event reply ≡ []
+    pub no_join : (i n at : ℕ) → traces.join_seen i n at event reply ≡ at
+    pub no_shown : (i : ℕ) → traces.was_shown i event reply ≡ 0
+    pub no_entry : (past : List (HappenedOf O)) (order : List (Entry O.Edit)) → traces.entry_taken O past order event reply ≡ []
 
   -- as is each that finds nothing
   pub nothing_silent : (e : EventOf O) → IsSilent e Nothing
@@ -82,15 +82,15 @@ module _ (O : Operations) where
     gone_silent (IsDropped up fault (Rises a us rising) f) = record { no_edit = λ j. refl; no_join = λ j n k. refl; no_shown = λ j. refl; no_entry = λ p o. refl }
     gone_silent (IsDropped up fault Strays f) = record { no_edit = λ j. refl; no_join = λ j n k. refl; no_shown = λ j. refl; no_entry = λ p o. refl }
 
-    pub brought_made : {i : ℕ} {up : Up O.Op} {oa : Option (AttachedOf O)} {e : EventOf O} → Brings i up oa e → (r : ReplyOf O) (j : ℕ) → edit_made j e r ≡ []
+    pub brought_made : {i : ℕ} {up : Up O.Op} {oa : Option (AttachedOf O)} {e : EventOf O} → Brings i up oa e → (r : ReplyOf O) (j : ℕ) → traces.edit_made j e r ≡ []
     brought_made (Rises a us rising) r j = refl
     brought_made Strays r j = refl
 
-    pub brought_join : {i : ℕ} {up : Up O.Op} {oa : Option (AttachedOf O)} {e : EventOf O} → Brings i up oa e → (r : ReplyOf O) (j n at : ℕ) → join_seen j n at e r ≡ at
+    pub brought_join : {i : ℕ} {up : Up O.Op} {oa : Option (AttachedOf O)} {e : EventOf O} → Brings i up oa e → (r : ReplyOf O) (j n at : ℕ) → traces.join_seen j n at e r ≡ at
     brought_join (Rises a us rising) r j n at = refl
     brought_join Strays r j n at = refl
 
-    pub brought_shown : {i : ℕ} {up : Up O.Op} {oa : Option (AttachedOf O)} {e : EventOf O} → Brings i up oa e → (r : ReplyOf O) (j : ℕ) → was_shown j e r ≡ 0
+    pub brought_shown : {i : ℕ} {up : Up O.Op} {oa : Option (AttachedOf O)} {e : EventOf O} → Brings i up oa e → (r : ReplyOf O) (j : ℕ) → traces.was_shown j e r ≡ 0
     brought_shown (Rises a us rising) r j = refl
     brought_shown Strays r j = refl
 

@@ -14,7 +14,7 @@ use Rattle.jup_world.specs.Events.{Happened, Join, Leave, Edit as MakeEdit, Up a
 use Rattle.jup_world.specs.Sound.{edit_reply}
 use Rattle.jup_world.specs.Happenings.{Plays, with_answer, refilled_from, refilled, fetched_for, refilled_star, handed_first, handed, reply_to, first_reply, FirstFits, FitsFirst, Spares, AreReady, Rises, IsRefused, SparesAt}
 use Rattle.jup_site.proofs.Numbers.{map_kept}
-use Rattle.jup_world.proofs.Answers.{some_link, take_taken, take_refused, take_wanted}
+use Rattle.jup_world.proofs.Answers as world_answers
 use Rattle.jup_star.specs.declared.faults.OpenFault.{OpenFault}
 
 -- Where the site of a number is, and what a change of one site does to the list of sites.
@@ -379,7 +379,7 @@ module _ (s : BoardStar) (sites : List Attached) (ready : AreReady s (map bare_a
       → OnOk r (bare_attached new ≡ with_answer (edit_answer board_batches command e.site) (bare_attached e))
       → IfOk r (λ reply. Plays (MakeEdit i command) s (map bare_attached sites) reply s (map bare_attached (set sites at new)))
   edit_plays command (Ok reply) new is made =
-      let l = some_link (link_of i s.links) linked in
+      let l = world_answers.some_link (link_of i s.links) linked in
       plays_edit s s (map bare_attached sites) _ i command reply l.0 (bare_attached e) l.1 found is refl (changed (with_answer (edit_answer board_batches command e.site)) new made)
   edit_plays command (Err fault) new is made = tt
 
@@ -390,7 +390,7 @@ module _ (s : BoardStar) (sites : List Attached) (ready : AreReady s (map bare_a
   -- a ping
   pub ping_plays : (k : ℕ) (new : Attached) → bare_attached new ≡ pinged board_batches k (bare_attached e) → Plays (SendPing i k) s (map bare_attached sites) Asked s (map bare_attached (set sites at new))
   ping_plays k new made =
-      let l = some_link (link_of i s.links) linked in
+      let l = world_answers.some_link (link_of i s.links) linked in
       plays_ping s s (map bare_attached sites) _ i k l.0 (bare_attached e) l.1 found refl (changed (pinged board_batches k) new made)
 
   -- messages up
@@ -399,7 +399,7 @@ module _ (s : BoardStar) (sites : List Attached) (ready : AreReady s (map bare_a
   up_plays t reply new rises made = cases (messages ups e.up.way) refl (subst (λ n. Rises n (messages ups e.up.way) s t reply) number rises)
     where
       l : (k : BoardLink) × (link_of i s.links ≡ Some k)
-      l = some_link (link_of i s.links) linked
+      l = world_answers.some_link (link_of i s.links) linked
 
       none_taken : (messages ups e.up.way) ≡ [] → one_taken board_batches (bare_attached e) ≡ bare_attached e
       none_taken empty = λ j. record { site = e.site; up = (ap (drop 1) empty ∙ sym empty) j; down = (messages downs e.down.way) }
@@ -410,19 +410,19 @@ module _ (s : BoardStar) (sites : List Attached) (ready : AreReady s (map bare_a
           (plays_no_up s t (map bare_attached sites) _ i l.0 (bare_attached e) l.1 found empty told.1 (unchanged new (made ∙ none_taken empty)))
       cases (up ∷ ups) first told =
           subst (λ r. Plays (MoveUp i) s (map bare_attached sites) r t (map bare_attached (set sites at new))) (sym told.1)
-          (plays_taken s t (map bare_attached sites) _ i l.0 (bare_attached e) up ups told.0 l.1 found first (take_taken i up s t l.0 told.0 l.1 told.2) (changed (one_taken board_batches) new made))
+          (plays_taken s t (map bare_attached sites) _ i l.0 (bare_attached e) up ups told.0 l.1 found first (world_answers.take_taken i up s t l.0 told.0 l.1 told.2) (changed (one_taken board_batches) new made))
 
   pub refused_plays : (t : BoardStar) (fault refusal : StarFault) (new : Attached) (next : List BoardAttached) → IsRefused e.site.number (messages ups e.up.way) s t fault → is_no_memory fault ≡ false → refusal ≡ fault
       → bare_attached new ≡ bare_attached e → next ≡ without_site i (map bare_attached (set sites at new)) → Plays (MoveUp i) s (map bare_attached sites) (Detached refusal) t next
   refused_plays t fault refusal new next refused other same made gone = cases (messages ups e.up.way) refl (subst (λ n. IsRefused n (messages ups e.up.way) s t fault) number refused)
     where
       l : (k : BoardLink) × (link_of i s.links ≡ Some k)
-      l = some_link (link_of i s.links) linked
+      l = world_answers.some_link (link_of i s.links) linked
 
       cases : (us : List (Up BoardBatch)) → (messages ups e.up.way) ≡ us → IsRefused i us s t fault → Plays (MoveUp i) s (map bare_attached sites) (Detached refusal) t next
       cases [] empty told = absurd told
       cases (up ∷ ups) first told =
-          plays_detached s t (map bare_attached sites) next i l.0 (bare_attached e) up ups fault refusal l.1 found first (take_refused i up s t l.0 fault other l.1 told) same (gone ∙ ap (without_site i) (unchanged new made))
+          plays_detached s t (map bare_attached sites) next i l.0 (bare_attached e) up ups fault refusal l.1 found first (world_answers.take_refused i up s t l.0 fault other l.1 told) same (gone ∙ ap (without_site i) (unchanged new made))
 
   -- an allocation failed
   pub refused_same : (t : BoardStar) (fault : StarFault) → IsRefused e.site.number (messages ups e.up.way) s t fault → is_no_memory fault ≡ true → t ≡ s
@@ -430,7 +430,7 @@ module _ (s : BoardStar) (sites : List Attached) (ready : AreReady s (map bare_a
     where
       cases : (us : List (Up BoardBatch)) → IsRefused e.site.number us s t fault → t ≡ s
       cases [] told = absurd told
-      cases (up ∷ more) told = take_wanted e.site.number up s t fault memory told
+      cases (up ∷ more) told = world_answers.take_wanted e.site.number up s t fault memory told
 
   -- messages down: the oldest is one that the site takes
   pub oldest_fits : (l : BoardLink) → link_of e.site.number s.links ≡ Some l → FirstFits (refilled l (bare_attached e))
@@ -450,7 +450,7 @@ module _ (s : BoardStar) (sites : List Attached) (ready : AreReady s (map bare_a
       → OnOk r ((l : BoardLink) → link_of e.site.number s.links ≡ Some l → t ≡ refilled_star l (bare_attached e) s)
       → IfOk r (λ reply. Plays (MoveDown i) s (map bare_attached sites) reply t (map bare_attached (set sites at new)))
   down_plays t (Ok reply) new is site star =
-      let l = some_link (link_of e.site.number s.links) linked_there in
+      let l = world_answers.some_link (link_of e.site.number s.links) linked_there in
       let link : link_of i s.links ≡ Some l.0 = ap (λ n. link_of n s.links) (sym number) ∙ l.1 in
       plays_down s t (map bare_attached sites) _ i reply l.0 (bare_attached e) link found number (oldest_fits l.0 l.1) (is l.0 l.1) (star l.0 l.1)
       (changed (λ b. handed_as (messages downs e.down.way) l.0.outbox b) new (site l.0 l.1 ∙ handed_site l.0 (bare_attached e)))

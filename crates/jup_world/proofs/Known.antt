@@ -4,16 +4,16 @@ use Rattle.std.proofs.lemmas.List.{length-take-le, take_more}
 use Rattle.std.proofs.lemmas.List.Edits.{insert_end}
 use Rattle.jup_world.specs.Prelude.{Side, Client, Server, past, opposite, row_operation, Item, Items, has_name, name_eq, SeqOp, Link, received_operation, unheard}
 use Rattle.jup_value.specs.Items.{AreDistinct}
-use Rattle.jup_seq.specs.Operations.{HasRoom, client_past, server_past}
+use Rattle.jup_seq.specs.Operations as operations
 use Rattle.jup_seq.specs.Laws.Squares.{room_client, room_server}
-use Rattle.jup_seq.specs.Names.{inserts_client, inserts_server}
+use Rattle.jup_seq.specs.Names as names
 use Rattle.jup_world.specs.Twos.{texts, InsertsUnder, named_from}
 
 -- What was received.
 
 -- what both pasts keep of an operation, an end keeps of each that it receives
 module _ (P : SeqOp ℕ → Type 0)
-    (client : (c s : SeqOp ℕ) → P c → P (client_past c s)) (server : (s c : SeqOp ℕ) → P s → P (server_past s c)) where
+    (client : (c s : SeqOp ℕ) → P c → P (operations.client_past c s)) (server : (s c : SeqOp ℕ) → P s → P (operations.server_past s c)) where
   kept_past : (side : Side) (o e : SeqOp ℕ) → P o → P (past texts side o e)
   kept_past Client o e h = client o e h
   kept_past Server o e h = server o e h
@@ -26,13 +26,13 @@ module _ (P : SeqOp ℕ → Type 0)
   kept_received l heard o h = kept_row (opposite l.side) o (unheard l heard) h
 
 -- room for the operation as it was sent is room for it as it is received
-pub received_room : (l : Link (SeqOp ℕ)) (heard : ℕ) (o : SeqOp ℕ) (x : Items ℕ) → HasRoom o 0 x → HasRoom (received_operation texts l heard o) 0 x
-received_room l heard o x = kept_received (λ p. HasRoom p 0 x) (room_client 0 x) (room_server 0 x) l heard o
+pub received_room : (l : Link (SeqOp ℕ)) (heard : ℕ) (o : SeqOp ℕ) (x : Items ℕ) → operations.HasRoom o 0 x → operations.HasRoom (received_operation texts l heard o) 0 x
+received_room l heard o x = kept_received (λ p. operations.HasRoom p 0 x) (room_client 0 x) (room_server 0 x) l heard o
 
 -- it inserts names of the same site
 pub received_names : (site : ℕ) (l : Link (SeqOp ℕ)) (heard : ℕ) (o : SeqOp ℕ) → InsertsUnder site o → InsertsUnder site (received_operation texts l heard o)
 received_names site l heard o =
-    kept_received (InsertsUnder site) (λ c s h n i. h n (inserts_client c s n i)) (λ s c h n i. h n (inserts_server s c n i)) l heard o
+    kept_received (InsertsUnder site) (λ c s h n i. h n (names.inserts_client c s n i)) (λ s c h n i. h n (names.inserts_server s c n i)) l heard o
 
 -- Texts whose items are named in order.
 

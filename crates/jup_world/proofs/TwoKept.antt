@@ -3,9 +3,9 @@ use Rattle.std.proofs.lemmas.Bool.{ltb-false, leb-false, false_from_ne_true, fal
 use Rattle.std.proofs.lemmas.List.{length_push}
 use Rattle.jup_world.specs.Prelude.{highest_limit, longest_sequence, most_of_two, Side, Client as ClientSide, Server as ServerSide, Name, Item, Items, name_eq, has_name, SeqOp, InsertOp, DeleteOp, RelabelOp, NoOp, Link, Message, Operation, Ack, generated, after_ack, after_count, after_receive, received_operation, link_after, state_after, message, owes, AllMessages, EditFault, TwoEdit, Insert, Delete, TwoEvent}
 use Rattle.jup_value.proofs.Items.{name_eq_refl, name_eq_same}
-use Rattle.jup_seq.specs.Operations.{after, IsValid, AreApart, edit_of}
+use Rattle.jup_seq.specs.Operations as operations
 use Rattle.jup_seq.specs.Names.{InsertsName, held_before}
-use Rattle.jup_link.specs.Links.{AcceptsMessage, AcceptsNext, MessagesApart}
+use Rattle.jup_link.specs.Links as links
 use Rattle.jup_link.specs.Laws.InStep.{MessagesApart-from}
 use Rattle.jup_link.specs.Laws.Steps.{generated-after_count, generated-after_receive, InStep-opened, InStep-client_edit, InStep-server_edit, InStep-takes_up, InStep-takes_down, InStep-server_answers, InStep-client_answers}
 use Rattle.jup_world.specs.declared.two.TwoEvent.TheVariants.{Client, Server, Up, Down}
@@ -20,8 +20,8 @@ new_name site most x within =
     false_from_ne_true _ (λ held. let low : most + 1 ≤ most = within (record { site = site; number = most + 1 }) held refl in omega (arith, low))
 
 -- names that an operation inserts, and those that were there, are within a bound
-HoldsWithin-after : (site most more : ℕ) (x : Items ℕ) (op : SeqOp ℕ) → IsValid op x → HoldsWithin site most x → most ≤ more
-    → ((n : Name) → InsertsName (edit_of op) n → n.site ≡ site → n.number ≤ more) → HoldsWithin site more (after op x)
+HoldsWithin-after : (site most more : ℕ) (x : Items ℕ) (op : SeqOp ℕ) → operations.IsValid op x → HoldsWithin site most x → most ≤ more
+    → ((n : Name) → InsertsName (operations.edit_of op) n → n.site ≡ site → n.number ≤ more) → HoldsWithin site more (operations.after op x)
 HoldsWithin-after site most more x op valid within le new n held here =
     elim (held_before x op n valid held) [
       | inl before ↦ (let low : n.number ≤ most = within n before here in omega (arith, low, le))
@@ -29,7 +29,7 @@ HoldsWithin-after site most more x op valid within le new n held here =
     ]
 
 -- operations of two sites are apart
-apart_sites : (i j : ℕ) → (i ≡ j → ⊥) → (o p : SeqOp ℕ) → InsertsUnder i o → InsertsUnder j p → AreApart p o
+apart_sites : (i j : ℕ) → (i ≡ j → ⊥) → (o p : SeqOp ℕ) → InsertsUnder i o → InsertsUnder j p → operations.AreApart p o
 apart_sites i j ne (InsertOp q z) (InsertOp p y) under_i under_j =
     false_from_ne_true (name_eq y.name z.name)
     (λ same. ne (sym (under_i z.name (name_eq_refl z.name)) ∙ ap (λ (n : Name). n.site) (sym (name_eq_same y.name z.name same)) ∙ under_j y.name (name_eq_refl y.name)))
@@ -41,7 +41,7 @@ apart_sites i j ne o (RelabelOp p m v) under_i under_j = tt
 apart_sites i j ne o NoOp under_i under_j = tt
 
 -- and apart from all messages of the other site
-apart_messages : (i j : ℕ) → (i ≡ j → ⊥) → (o : SeqOp ℕ) → InsertsUnder i o → (ms : List (Message (SeqOp ℕ))) → AllMessages (InsertsUnder j) ms → MessagesApart texts ms o
+apart_messages : (i j : ℕ) → (i ≡ j → ⊥) → (o : SeqOp ℕ) → InsertsUnder i o → (ms : List (Message (SeqOp ℕ))) → AllMessages (InsertsUnder j) ms → links.MessagesApart texts ms o
 apart_messages i j ne o under ms all = MessagesApart-from texts (InsertsUnder j) ms o (λ p under_j. apart_sites i j ne o p under under_j) all
 
 AllMessages-append : (P : SeqOp ℕ → Type 0) (ms ns : List (Message (SeqOp ℕ))) → AllMessages P ms → AllMessages P ns → AllMessages P (ms ++ ns)
@@ -53,9 +53,9 @@ AllMessages-append P (Operation mine heard o ∷ ms) ns all more = (all.0, AllMe
 
 -- what is known of the operation of an edit that is not refused
 record IsOwn (site : ℕ) (e : TwoEnd) (op : SeqOp ℕ) : Type 0 where
-  valid : IsValid op e.text
+  valid : operations.IsValid op e.text
   under : InsertsUnder site op
-  within : (n : Name) → InsertsName (edit_of op) n → n.number ≤ e.inserted + insertions op
+  within : (n : Name) → InsertsName (operations.edit_of op) n → n.number ≤ e.inserted + insertions op
   few : e.made < highest_limit
   small : insertions op ≤ 1
 
@@ -125,7 +125,7 @@ all_later P (Operation mine heard o) ms all = all.1
 
 -- an end keeps what always holds of it through a message of the other site
 taken_end : (site other : ℕ) → (other ≡ site → ⊥) → (e : TwoEnd) (out : List (Message (SeqOp ℕ))) (m : Message (SeqOp ℕ)) (ms : List (Message (SeqOp ℕ)))
-    → AcceptsMessage texts e.link e.text m → AllMessages (InsertsUnder other) (m ∷ ms) → IsTwoEnd site e out
+    → links.AcceptsMessage texts e.link e.text m → AllMessages (InsertsUnder other) (m ∷ ms) → IsTwoEnd site e out
     → IsTwoEnd site (delivered e (m ∷ ms)) (out ++ sent_back e (m ∷ ms))
 taken_end site other ne e out (Ack k) ms accepts all end =
     let link = after_count e.link k in
@@ -262,21 +262,21 @@ opened_kept start short = record {
 
 -- the messages on their way are accepted
 up_accepts : (client server : TwoEnd) (up down : List (Message (SeqOp ℕ)))
-    → IsTwo (record { client = client; server = server; up = up; down = down }) → AcceptsNext texts server.link server.text up
+    → IsTwo (record { client = client; server = server; up = up; down = down }) → links.AcceptsNext texts server.link server.text up
 up_accepts client server [] down two = tt
 up_accepts client server (m ∷ up) down two =
     (InStep-takes_up texts texts_lawful (most_of_two - (client.made + server.made)) client.text server.text client.link server.link m up down two.in_step).0
 
 down_accepts : (client server : TwoEnd) (up down : List (Message (SeqOp ℕ)))
-    → IsTwo (record { client = client; server = server; up = up; down = down }) → AcceptsNext texts client.link client.text down
+    → IsTwo (record { client = client; server = server; up = up; down = down }) → links.AcceptsNext texts client.link client.text down
 down_accepts client server up [] two = tt
 down_accepts client server up (m ∷ down) two =
     (InStep-takes_down texts texts_lawful (most_of_two - (client.made + server.made)) client.text server.text client.link server.link m up down two.in_step).0
 
-pub next_up_accepted : (s : TwoState) → IsTwo s → AcceptsNext texts s.server.link s.server.text s.up
+pub next_up_accepted : (s : TwoState) → IsTwo s → links.AcceptsNext texts s.server.link s.server.text s.up
 next_up_accepted s two = up_accepts s.client s.server s.up s.down two
 
-pub next_down_accepted : (s : TwoState) → IsTwo s → AcceptsNext texts s.client.link s.client.text s.down
+pub next_down_accepted : (s : TwoState) → IsTwo s → links.AcceptsNext texts s.client.link s.client.text s.down
 next_down_accepted s two = down_accepts s.client s.server s.up s.down two
 
 -- # Calls that answer that an allocation failed, and then leave all as it was

@@ -5,7 +5,7 @@ use Rattle.jup_window.specs.Entries.{EachWidget}
 use Rattle.jup_window.specs.Laws.Entries.{only_site-held}
 use Rattle.jup_batch.specs.Boards as batch
 use Rattle.jup_star.specs.Stars.{star_open_fault}
-use Rattle.jup_star.proofs.Stars.{board_small, short_bare, distinct_bare}
+use Rattle.jup_star.proofs.Stars as stars
 use Rattle.jup_star.proofs.FaultTests.{link_site, taken_site}
 use Rattle.jup_world.specs.declared.events.Event.TheVariants as played
 use Rattle.jup_world.specs.Events.{JoinStray, Happened}
@@ -14,9 +14,9 @@ use Rattle.jup_world.specs.Traces.{stray_seen, is_stray, AreLinked}
 use Rattle.jup_world.specs.Sound.{IsSound, LinkedAt, KnowsStrays, IsPlain, ArePlain, AllLinked}
 use Rattle.jup_world.specs.Boards.{BoardWorld, BoardLink, BoardAttached, BoardEvent, IsBoardWorld, IsReached, BoardReply}
 use Rattle.jup_world.specs.Happenings.{AreNumbered, AreReady, OldestFits, IsWorld, IsSpared}
-use Rattle.jup_world.specs.Lanes.{plain_happened, plain_trace}
+use Rattle.jup_world.specs.Lanes as lanes
 use Rattle.jup_world.specs.Insides.{lane_event, noted_trace}
-use Rattle.jup_world.proofs.EventSteps.{Brings, Rises, Strays, WhyStill, Finds, NotJoined, NoStray, NotMade, WhyGone, Leaves, StrayLeaves, IsDropped, StepOf, Still, Enters, EntersStray, Goes, Makes, Asks, Takes, Hands, handed_number, step_of}
+use Rattle.jup_world.proofs.EventSteps as steps
 use Rattle.jup_site.proofs.Numbers as numbers
 use Rattle.jup_world.proofs.Sound.Traces.{stray-end, no_site}
 use Rattle.jup_world.proofs.Sound.Runs as sound_runs
@@ -48,20 +48,20 @@ module _ (O : Operations) (L : AreLawful O) where
   nothing_unseen j JoinStray = refl
   nothing_unseen j e = refl
 
-  still_unseen : (w : WorldOf O) (j : ℕ) (e : EventOf O) (r : ReplyOf O) → WhyStill O w e r → stray_seen j e r ≡ false
-  still_unseen w j e r (Finds event) = nothing_unseen j event
-  still_unseen w j e r (NotJoined fault) = refl
-  still_unseen w j e r (NoStray fault) = refl
-  still_unseen w j e r (NotMade i command fault) = refl
+  still_unseen : (w : WorldOf O) (j : ℕ) (e : EventOf O) (r : ReplyOf O) → steps.WhyStill O w e r → stray_seen j e r ≡ false
+  still_unseen w j e r (steps.Finds event) = nothing_unseen j event
+  still_unseen w j e r (steps.NotJoined fault) = refl
+  still_unseen w j e r (steps.NoStray fault) = refl
+  still_unseen w j e r (steps.NotMade i command fault) = refl
 
-  brought_unseen : (w : WorldOf O) {i : ℕ} {up : Up O.Op} {oa : Option (AttachedOf O)} {e : EventOf O} → Brings O w i up oa e → (r : ReplyOf O) (j : ℕ) → stray_seen j e r ≡ false
-  brought_unseen w (Rises a us rising) r j = refl
-  brought_unseen w Strays r j = refl
+  brought_unseen : (w : WorldOf O) {i : ℕ} {up : Up O.Op} {oa : Option (AttachedOf O)} {e : EventOf O} → steps.Brings O w i up oa e → (r : ReplyOf O) (j : ℕ) → stray_seen j e r ≡ false
+  brought_unseen w (steps.Rises a us rising) r j = refl
+  brought_unseen w steps.Strays r j = refl
 
-  gone_unseen : (w : WorldOf O) (j i : ℕ) (l : LinkState O.Op) (oa : Option (AttachedOf O)) (e : EventOf O) (r : ReplyOf O) → WhyGone O w i l oa e r → stray_seen j e r ≡ false
-  gone_unseen w j i l oa e r (Leaves a) = refl
-  gone_unseen w j i l oa e r StrayLeaves = refl
-  gone_unseen w j i l oa e r (IsDropped up fault brought f) = brought_unseen w brought r j
+  gone_unseen : (w : WorldOf O) (j i : ℕ) (l : LinkState O.Op) (oa : Option (AttachedOf O)) (e : EventOf O) (r : ReplyOf O) → steps.WhyGone O w i l oa e r → stray_seen j e r ≡ false
+  gone_unseen w j i l oa e r (steps.Leaves a) = refl
+  gone_unseen w j i l oa e r steps.StrayLeaves = refl
+  gone_unseen w j i l oa e r (steps.IsDropped up fault brought f) = brought_unseen w brought r j
 
   module _ (most : ℕ) (w : WorldOf O) (s : IsSound O most w) (k : KnowsStrays O w) where
     -- an event that gives no number to a stranger
@@ -109,27 +109,27 @@ module _ (O : Operations) (L : AreLawful O) where
         (λ j e. rw (found-end_other (λ x. x.site) j w.star.links (opened_link (w.star.given + 1)) e, or_false (is_stray j w.trace) (nat_eq (w.star.given + 1) j) e) (k.links j))
 
     -- an event, by its outcome
-    strays-step : (e : EventOf O) (o : Outcome O) → StepOf O w e o → KnowsStrays O (with_outcome O w e o)
-    strays-step e o (Still why) = unseen e o (λ j. still_unseen w j e _ why) (omega arith) k.links
-    strays-step e o (Enters none) = unseen e o (λ j. refl) (omega arith) entered
-    strays-step e o (EntersStray none) = record {
+    strays-step : (e : EventOf O) (o : Outcome O) → steps.StepOf O w e o → KnowsStrays O (with_outcome O w e o)
+    strays-step e o (steps.Still why) = unseen e o (λ j. still_unseen w j e _ why) (omega arith) k.links
+    strays-step e o (steps.Enters none) = unseen e o (λ j. refl) (omega arith) entered
+    strays-step e o (steps.EntersStray none) = record {
       links = λ j. subst (λ b. LinkedAt O b (link_of j (w.star.links ++ opened_link (w.star.given + 1) ∷ [])) (attached j w.sites)) (sym (stray-end j w.trace (record { event = JoinStray; reply = Joined (w.star.given + 1) }))) (entered_stray j);
       new = λ j above. (stray-end j w.trace (record { event = JoinStray; reply = Joined (w.star.given + 1) })
           ∙ or_false (is_stray j w.trace) (nat_eq (w.star.given + 1) j) (ne_eqb (w.star.given + 1) j (λ e. absurd (omega arith))) ∙ k.new j (omega arith));
     }
-    strays-step e o (Goes i l oa fl fa why) = unseen e o (λ j. gone_unseen w j i l oa e _ why) (omega arith)
+    strays-step e o (steps.Goes i l oa fl fa why) = unseen e o (λ j. gone_unseen w j i l oa e _ why) (omega arith)
         (numbers.at_removal (λ x. x.site) (λ y. y.site.number) (λ j ol oa. LinkedAt O (is_stray j w.trace) ol oa) i w.star.links w.sites tt (λ j e. k.links j))
-    strays-step e o (Makes i command l a op fl fa ok) = unseen e o (λ j. refl) (omega arith) (site_changed i (with_edit O op) (λ b. refl))
-    strays-step e o (Asks i m l a fl fa) = unseen e o (λ j. refl) (omega arith) (site_changed i (pinged O m) (λ b. refl))
-    strays-step e o (Takes i l oa (UpOp m) fl fa brought none) = unseen e o (brought_unseen w brought _) (omega arith)
+    strays-step e o (steps.Makes i command l a op fl fa ok) = unseen e o (λ j. refl) (omega arith) (site_changed i (with_edit O op) (λ b. refl))
+    strays-step e o (steps.Asks i m l a fl fa) = unseen e o (λ j. refl) (omega arith) (site_changed i (pinged O m) (λ b. refl))
+    strays-step e o (steps.Takes i l oa (UpOp m) fl fa brought none) = unseen e o (brought_unseen w brought _) (omega arith)
         (changed i (link_heard O m) (link_sent (operation_at O l.end m)) (one_taken O) (λ x. refl) (λ x. refl) (λ b. refl))
-    strays-step e o (Takes i l oa (UpAck m) fl fa brought none) = unseen e o (brought_unseen w brought _) (omega arith) (changed i (link_acked m) (λ x. x) (one_taken O) (λ x. refl) (λ x. refl) (λ b. refl))
-    strays-step e o (Takes i l oa (UpPing m) fl fa brought none) = unseen e o (brought_unseen w brought _) (omega arith) (changed i (link_ponged m) (λ x. x) (one_taken O) (λ x. refl) (λ x. refl) (λ b. refl))
-    strays-step e o (Hands i gone l a d ds fl fa falls none) = unseen e o (λ j. refl) (omega arith) (changed i (link_fetched gone) (λ x. x) (one_handed O d ds) (λ x. refl) (λ x. refl) (handed_number O d ds))
+    strays-step e o (steps.Takes i l oa (UpAck m) fl fa brought none) = unseen e o (brought_unseen w brought _) (omega arith) (changed i (link_acked m) (λ x. x) (one_taken O) (λ x. refl) (λ x. refl) (λ b. refl))
+    strays-step e o (steps.Takes i l oa (UpPing m) fl fa brought none) = unseen e o (brought_unseen w brought _) (omega arith) (changed i (link_ponged m) (λ x. x) (one_taken O) (λ x. refl) (λ x. refl) (λ b. refl))
+    strays-step e o (steps.Hands i gone l a d ds fl fa falls none) = unseen e o (λ j. refl) (omega arith) (changed i (link_fetched gone) (λ x. x) (one_handed O d ds) (λ x. refl) (λ x. refl) (steps.handed_number O d ds))
 
     -- each event
     pub strays-happens : (e : EventOf O) → KnowsStrays O (happens O w e)
-    strays-happens e = strays-step e (outcome O w e) (step_of O w e)
+    strays-happens e = strays-step e (outcome O w e) (steps.step_of O w e)
 
     -- a failed allocation
     pub strays-fetched : (i m : ℕ) (l : LinkState O.Op) → KnowsStrays O (only_fetched O w i m l)
@@ -168,7 +168,7 @@ module _ (O : Operations) (L : AreLawful O) where
 -- a world of boards that is opened
 pub opened_sound : (b : Windows) (limit : ℕ) → IsOpening b → limit ≤ highest_limit → IsBoardWorld (opened_world board_batches b limit)
 opened_sound b limit opening low = record {
-  sound = sound_runs.sound-opened board_batches batch_laws most_batches limit b opening.distinct (board_small b opening.short) (omega arith) (omega arith)
+  sound = sound_runs.sound-opened board_batches batch_laws most_batches limit b opening.distinct (stars.board_small b opening.short) (omega arith) (omega arith)
       (λ n held. only_site-held 0 b n opening.unsigned held);
   tallied = record { given = refl; made = tt };
   strays = record { links = λ i. tt; new = λ i above. refl };
@@ -231,37 +231,37 @@ ascending_above least most more [] h up = omega arith
 ascending_above least most more (a ∷ xs) h up = (up.0, ascending_above a.site.number most more xs h up.1)
 
 -- an event, by its outcome
-step_numbered : (w : BoardWorld) → IsSound board_batches most_batches w → AreNumbered w.star w.sites → (e : BoardEvent) (o : Outcome board_batches) → StepOf board_batches w e o → KeepsNumbers o
-step_numbered w s is e o (Still why) = is
-step_numbered w s is e o (Enters none) = record {
+step_numbered : (w : BoardWorld) → IsSound board_batches most_batches w → AreNumbered w.star w.sites → (e : BoardEvent) (o : Outcome board_batches) → steps.StepOf board_batches w e o → KeepsNumbers o
+step_numbered w s is e o (steps.Still why) = is
+step_numbered w s is e o (steps.Enters none) = record {
   ascending = ascending_end 0 w.star.given _ w.sites refl is.ascending;
   positive = is.positive;
   limited = is.limited;
   named = λ i above. is.named i (omega arith);
 }
-step_numbered w s is e o (EntersStray none) = record {
+step_numbered w s is e o (steps.EntersStray none) = record {
   ascending = ascending_above 0 w.star.given (w.star.given + 1) w.sites (omega arith) is.ascending;
   positive = is.positive;
   limited = is.limited;
   named = λ i above. is.named i (omega arith);
 }
-step_numbered w s is e o (Goes i l oa fl fa why) = sites_numbered w.star _ w.sites _ is refl refl refl (ascending_without i 0 w.star.given w.sites is.ascending)
-step_numbered w s is e o (Makes i command l a op fl fa ok) = sites_numbered w.star w.star w.sites _ is refl refl refl (ascending_at (with_edit board_batches op) i 0 w.star.given (λ b. refl) w.sites is.ascending)
-step_numbered w s is e o (Asks i k l a fl fa) = sites_numbered w.star _ w.sites _ is refl refl refl (ascending_at (pinged board_batches k) i 0 w.star.given (λ b. refl) w.sites is.ascending)
-step_numbered w s is e o (Takes i l oa (UpOp m) fl fa brought none) = record {
+step_numbered w s is e o (steps.Goes i l oa fl fa why) = sites_numbered w.star _ w.sites _ is refl refl refl (ascending_without i 0 w.star.given w.sites is.ascending)
+step_numbered w s is e o (steps.Makes i command l a op fl fa ok) = sites_numbered w.star w.star w.sites _ is refl refl refl (ascending_at (with_edit board_batches op) i 0 w.star.given (λ b. refl) w.sites is.ascending)
+step_numbered w s is e o (steps.Asks i k l a fl fa) = sites_numbered w.star _ w.sites _ is refl refl refl (ascending_at (pinged board_batches k) i 0 w.star.given (λ b. refl) w.sites is.ascending)
+step_numbered w s is e o (steps.Takes i l oa (UpOp m) fl fa brought none) = record {
   ascending = ascending_at (one_taken board_batches) i 0 w.star.given (λ b. refl) w.sites is.ascending;
   positive = is.positive;
   limited = is.limited;
   named = λ j above. batch_none j (operation_at board_batches l.end m) w.star.board
       (λ n put same. let site = taken_site board_batches batch_laws w.star l m n none put in let number = link_site i l w.star.links fl in let given = link_given w s i l fl in absurd (omega arith)) (is.named j above);
 }
-step_numbered w s is e o (Takes i l oa (UpAck k) fl fa brought none) = sites_numbered w.star _ w.sites _ is refl refl refl (ascending_at (one_taken board_batches) i 0 w.star.given (λ b. refl) w.sites is.ascending)
-step_numbered w s is e o (Takes i l oa (UpPing k) fl fa brought none) = sites_numbered w.star _ w.sites _ is refl refl refl (ascending_at (one_taken board_batches) i 0 w.star.given (λ b. refl) w.sites is.ascending)
-step_numbered w s is e o (Hands i gone l a d ds fl fa falls none) = sites_numbered w.star _ w.sites _ is refl refl refl (ascending_at (one_handed board_batches d ds) i 0 w.star.given (handed_number board_batches d ds) w.sites is.ascending)
+step_numbered w s is e o (steps.Takes i l oa (UpAck k) fl fa brought none) = sites_numbered w.star _ w.sites _ is refl refl refl (ascending_at (one_taken board_batches) i 0 w.star.given (λ b. refl) w.sites is.ascending)
+step_numbered w s is e o (steps.Takes i l oa (UpPing k) fl fa brought none) = sites_numbered w.star _ w.sites _ is refl refl refl (ascending_at (one_taken board_batches) i 0 w.star.given (λ b. refl) w.sites is.ascending)
+step_numbered w s is e o (steps.Hands i gone l a d ds fl fa falls none) = sites_numbered w.star _ w.sites _ is refl refl refl (ascending_at (one_handed board_batches d ds) i 0 w.star.given (steps.handed_number board_batches d ds) w.sites is.ascending)
 
 -- each event
 pub numbered_outcome : (w : BoardWorld) (e : BoardEvent) → IsSound board_batches most_batches w → AreNumbered w.star w.sites → KeepsNumbers (outcome board_batches w e)
-numbered_outcome w e s is = step_numbered w s is e (outcome board_batches w e) (step_of board_batches w e)
+numbered_outcome w e s is = step_numbered w s is e (outcome board_batches w e) (steps.step_of board_batches w e)
 
 -- # Worlds
 
@@ -287,7 +287,7 @@ world_new b limit opening some limited = record {
 pub world_opened : (b : batch.Windows) (limit : ℕ) → star_open_fault (batch.bare b) limit ≡ None → batch.HasDistinctNames b → EachWidget IsShort b → IsWorld (opened_world board_batches (batch.bare b) limit)
 world_opened b limit none distinct short =
     let held = open_held (nat_le 1 limit) (nat_le limit highest_limit) (only_site 0 (batch.bare b)) none in
-    world_new (batch.bare b) limit (record { distinct = distinct_bare b distinct; unsigned = held.2; short = short_bare b short }) (leb-true 1 limit held.0) (leb-true limit highest_limit held.1)
+    world_new (batch.bare b) limit (record { distinct = stars.distinct_bare b distinct; unsigned = held.2; short = stars.short_bare b short }) (leb-true 1 limit held.0) (leb-true limit highest_limit held.1)
 
 pub world_happens : (w : BoardWorld) (e : BoardEvent) → IsWorld w → IsWorld (happens board_batches w e)
 world_happens w e is = record { board = happens_sound w e is.board; numbered = numbered_outcome w e is.board.sound is.numbered }
@@ -332,7 +332,7 @@ kept_site f same j b (x ∷ later) found = step (is_number j x) (ap (λ s. nat_e
 -- The program plays no stranger, so its trace has none.
 
 -- one event
-none_played : (i : ℕ) (event : Played Command) (reply : BoardReply) (later : List (Happened Commands BoardBatch BoardEdits EditFault)) → is_stray i (plain_happened (lane_event event) reply ++ later) ≡ is_stray i later
+none_played : (i : ℕ) (event : Played Command) (reply : BoardReply) (later : List (Happened Commands BoardBatch BoardEdits EditFault)) → is_stray i (lanes.plain_happened (lane_event event) reply ++ later) ≡ is_stray i later
 none_played i played.Join reply later = refl
 none_played i (played.Leave j) reply later = refl
 none_played i (played.Edit j command) reply later = refl
@@ -344,6 +344,6 @@ none_played i (played.PushUp j n) reply later = refl
 none_played i (played.PushDown j n) reply later = refl
 
 -- a trace
-pub none_stray : (trace : List (Kept Command BoardEdits EditFault)) (i : ℕ) → is_stray i (plain_trace (noted_trace trace)) ≡ false
+pub none_stray : (trace : List (Kept Command BoardEdits EditFault)) (i : ℕ) → is_stray i (lanes.plain_trace (noted_trace trace)) ≡ false
 none_stray [] i = refl
-none_stray (h ∷ hs) i = none_played i h.event h.reply (plain_trace (noted_trace hs)) ∙ none_stray hs i
+none_stray (h ∷ hs) i = none_played i h.event h.reply (lanes.plain_trace (noted_trace hs)) ∙ none_stray hs i

@@ -2,7 +2,7 @@
 use Rattle.std.proofs.Common.{◌≡◌, ℕ, ◌+◌, ◌≤◌, Bool, true, false, cond, List, [], ◌∷◌, ◌++◌, length, nat_eq, ap, sym, ◌∙◌, subst, arith, IsTrue, append_assoc, append-nil, length-append, ◌-◌, ◌⊎◌, take, drop, inl, inr, le_refl, take-append-drop, ◌<◌, Ok, leb-false}
 use Rattle.std.proofs.lemmas.Bool.{eqb-false}
 use Rattle.jup_site.specs.Prelude.{most_beyond, most_unacknowledged, AllApart, Msg, after_send, message, next_message, InStepAt, Message, IsCount, IsNumber, generated, received_operation, after_receive, sent, Operations, AreLawful, DownOp, Down, UpOp, ups, downs, LinkState, link_sent, operation_at, end_after, SiteOf, edit_answer, downs-append, ups-append, AllByRecursion}
-use Rattle.jup_link.specs.Laws.Steps.{small_le, client_lengths, server_sends, small_next, client_distinct, client_small, client_receives, length-after_receive, client_sends, client_generated}
+use Rattle.jup_link.specs.Laws.Steps as link_laws
 use Rattle.jup_site.specs.Turns.{Turn, Own, Other, edits, own_edits, others, IsIn, through_others}
 use Rattle.jup_site.specs.Sound.{SameMeaning, RowStands, edits_sent, named_by, own_counts, ChangesKnown, ChangesHeld, HoldsKnown, Inherits, RawNamed, OrderNamed, Paired, server_past_all, clients_past, Shows, IsKnown}
 use Rattle.jup_site.specs.Sites.{AttachedOf, with_edit}
@@ -66,8 +66,8 @@ module _ (O : Operations) (L : AreLawful O) where
           site_side = h.site_side;
           link_side = h.link_side;
           in_step = subst (λ f. InStepAt O.t 0 h.from h.site_ahead (h.star_ahead ++ op ∷ []) a.site.board (O.t.after op held) a.site.end (after_send l.end op) (ups a.up) f) (sym stream)
-              (server_sends O.t L.lawful op step accepted (grids.own_apart O L (λ j. named_by O i j past) i (named_by O i i (past ++ rest)) h.site_ahead h.raw a.site.named op h.up_inherits h.raw_named not_own)
-              (small_le O.t L.lawful _ h.room h.from (omega (arith, h.enough, h.backlog, client_lengths O.t L.lawful step)) h.small) (omega (arith, h.few_sent)));
+              (link_laws.server_sends O.t L.lawful op step accepted (grids.own_apart O L (λ j. named_by O i j past) i (named_by O i i (past ++ rest)) h.site_ahead h.raw a.site.named op h.up_inherits h.raw_named not_own)
+              (link_laws.small_le O.t L.lawful _ h.room h.from (omega (arith, h.enough, h.backlog, link_laws.client_lengths O.t L.lawful step)) h.small) (omega (arith, h.few_sent)));
           room = h.room;
           small = h.small;
           enough = omega (arith, h.enough, ap length whole_sent, length-append (past ++ rest) (Other j e ∷ []), length-append h.star_ahead (op ∷ []));
@@ -179,19 +179,19 @@ module _ (O : Operations) (L : AreLawful O) (most i : ℕ) (first : O.t.Content)
 
   -- what it sent is in its queue
   lengths : length h.site_ahead ≤ length a.site.end.outgoing
-  lengths = client_lengths O.t L.lawful stepping
+  lengths = link_laws.client_lengths O.t L.lawful stepping
 
   -- its board has room
   board_small : O.t.is_small 1 a.site.board
-  board_small = client_small O.t L.lawful 1 stepping (small_le O.t L.lawful (1 + length h.site_ahead) h.room h.from (omega (arith, h.enough, ap length down, lengths, h.backlog)) h.small)
+  board_small = link_laws.client_small O.t L.lawful 1 stepping (link_laws.small_le O.t L.lawful (1 + length h.site_ahead) h.room h.from (omega (arith, h.enough, ap length down, lengths, h.backlog)) h.small)
 
   -- the operation that it applies is the message's past all that it sent
   received_is : received_operation O.t a.site.end m.heard m.op ≡ server_past_all O s h.site_ahead
-  received_is = (client_receives O.t L.lawful h.site_side stepping).0
+  received_is = (link_laws.client_receives O.t L.lawful h.site_side stepping).0
 
   -- the message is next, its count may be sent, and its operation is valid there
   pub pair_fits : IsNumber a.site.end m.mine × IsCount a.site.end m.heard × O.t.is_valid (received_operation O.t a.site.end m.heard m.op) a.site.board
-  pair_fits = let came = client_receives O.t L.lawful h.site_side stepping in (came.1, came.2, came.3)
+  pair_fits = let came = link_laws.client_receives O.t L.lawful h.site_side stepping in (came.1, came.2, came.3)
 
   -- the same of the operation past what it sent
   accepted : O.t.is_valid (server_past_all O s h.site_ahead) a.site.board
@@ -201,7 +201,7 @@ module _ (O : Operations) (L : AreLawful O) (most i : ℕ) (first : O.t.Content)
   shows_next : O.t.content (O.t.after (server_past_all O s h.site_ahead) a.site.board) ≡ O.t.meaning first ((edits (grids.told_next O L past rest) ++ own_edits (drop (through_others 1 rest) rest)) ++ h.raw)
   unfolding old_counts
   shows_next =
-      L.keeps.effect_one a.site.board (server_past_all O s h.site_ahead) (client_distinct O.t L.lawful stepping) accepted
+      L.keeps.effect_one a.site.board (server_past_all O s h.site_ahead) (link_laws.client_distinct O.t L.lawful stepping) accepted
       ∙ ap (λ x. O.t.meaning x (O.t.edit_of (server_past_all O s h.site_ahead) ∷ [])) h.shows
       ∙ grids.meaning_one O L first ((edits past ++ own_edits rest) ++ h.raw) (O.t.edit_of (server_past_all O s h.site_ahead)) (λ n x f k d. fresh n x (known f k n d))
       ∙ grids.same-meaning O L _ _ first row_next.1
@@ -215,7 +215,7 @@ module _ (O : Operations) (L : AreLawful O) (most i : ℕ) (first : O.t.Content)
   stepped = subst
       (λ f. InStepAt O.t 0 (O.t.after s h.from) (clients_past O h.site_ahead s) ss (O.t.after (received_operation O.t a.site.end m.heard m.op) a.site.board) held
       (after_receive O.t a.site.end m.heard m.op) l.end (ups a.up) f)
-      (sym left) (client_receives O.t L.lawful h.site_side stepping).4
+      (sym left) (link_laws.client_receives O.t L.lawful h.site_side stepping).4
 
   -- no more insertions of its own have reached it than it made
   own_told : named_by O i i (grids.told_next O L past rest) ≤ a.site.named
@@ -252,7 +252,7 @@ module _ (O : Operations) (L : AreLawful O) (most i : ℕ) (first : O.t.Content)
     link_side = h.link_side;
     in_step = stepped;
     room = h.room - 1;
-    small = small_next O.t L.lawful h.room (h.room - 1) h.from s (omega (arith, h.enough, ap length down)) h.small stepping.states.far_valid.0;
+    small = link_laws.small_next O.t L.lawful h.room (h.room - 1) h.from s (omega (arith, h.enough, ap length down)) h.small stepping.states.far_valid.0;
     enough = omega (arith, h.enough, ap length down, ap length whole);
     raw = h.raw;
     raw_sent = h.raw_sent;
@@ -275,7 +275,7 @@ module _ (O : Operations) (L : AreLawful O) (most i : ℕ) (first : O.t.Content)
     link_number = h.link_number;
     link_named = subst (λ ts. l.named ≡ named_by O i i ts) (sym whole) h.link_named;
     goes_on = h.goes_on;
-    backlog = omega (arith, h.backlog, length-after_receive O.t a.site.end m.heard m.op);
+    backlog = omega (arith, h.backlog, link_laws.length-after_receive O.t a.site.end m.heard m.op);
     few_heard = subst (λ ts. l.end.received ≤ length ts) (sym whole) h.few_heard;
     few_sent = subst (λ ts. generated l.end ≤ length ts) (sym whole) h.few_sent;
   }
@@ -291,7 +291,7 @@ module _ (O : Operations) (L : AreLawful O) (most i : ℕ) (first : O.t.Content)
 
   -- the site keeps the order of its items
   pub shown_keeps_order : O.t.keeps_order a.site.board (O.t.after (received_operation O.t a.site.end m.heard m.op) a.site.board)
-  shown_keeps_order = L.keeps.order a.site.board (received_operation O.t a.site.end m.heard m.op) (client_distinct O.t L.lawful stepping) pair_fits.2
+  shown_keeps_order = L.keeps.order a.site.board (received_operation O.t a.site.end m.heard m.op) (link_laws.client_distinct O.t L.lawful stepping) pair_fits.2
 
   -- no name that the site knew comes back by an edit that it receives
   pub shown_none_back : (n : O.t.Name) → IsKnown O (own_counts O i a.site.named (λ j. named_by O i j past)) n
@@ -330,7 +330,7 @@ module _ (O : Operations) (L : AreLawful O) where
         let made_at : O.operation_of a.site.board command i a.site.named ≡ Ok op = subst (λ j. O.operation_of a.site.board command j a.site.named ≡ Ok op) h.site_number answer.0 in
         let next : IsTrue (O.bears_next i a.site.named (O.t.edit_of op)) = L.command_next a.site.board command i a.site.named op made_at in
         let step = h.in_step in
-        let lengths : length h.site_ahead ≤ length a.site.end.outgoing = client_lengths O.t L.lawful step in
+        let lengths : length h.site_ahead ≤ length a.site.end.outgoing = link_laws.client_lengths O.t L.lawful step in
         let short : length a.site.end.outgoing < most_unacknowledged = leb-false most_unacknowledged (length a.site.end.outgoing) answer.1 in
         let known_counts : ℕ → ℕ = own_counts O i a.site.named (λ j. named_by O i j past) in
         let more_counts : ℕ → ℕ = own_counts O i (a.site.named + O.insertions (O.t.edit_of op)) (λ j. named_by O i j past) in
@@ -340,7 +340,7 @@ module _ (O : Operations) (L : AreLawful O) where
         let changes : ChangesHeld O known_counts (O.t.edit_of op) = λ n x. elim (L.keeps.changes_held a.site.board op n accepted x) [ inl held ↦ inl (h.board_known n held) | inr new ↦ inr new ] in
         let all : List O.Edit = (edits past ++ own_edits rest) ++ h.raw in
         let effect : O.t.content (O.t.after op a.site.board) ≡ O.t.meaning first (all ++ O.t.edit_of op ∷ []) =
-        L.keeps.effect_one a.site.board op (client_distinct O.t L.lawful step) accepted
+        L.keeps.effect_one a.site.board op (link_laws.client_distinct O.t L.lawful step) accepted
         ∙ ap (λ x. O.t.meaning x (O.t.edit_of op ∷ [])) h.shows
         ∙ grids.meaning_one O L first all (O.t.edit_of op) (λ n x f m d. fresh n x (known_names.All-at (ChangesKnown O known_counts) all f m h.view_known n d) next) in
         record {
@@ -351,8 +351,8 @@ module _ (O : Operations) (L : AreLawful O) where
           link_side = h.link_side;
           in_step = subst (λ u. InStepAt O.t 0 h.from (h.site_ahead ++ op ∷ []) h.star_ahead (O.t.after op a.site.board) held (after_send a.site.end op) l.end u (downs (a.down ++ l.outbox)))
               (sym (ups-append a.up (UpOp (next_message a.site.end op) ∷ [])))
-              (client_sends O.t L.lawful op step accepted (others_apart i past rest h.star_ahead op h.rest_named h.down_inherits (λ n x. L.next_site i a.site.named (O.t.edit_of op) n next x))
-              (small_le O.t L.lawful _ h.room h.from (omega (arith, h.enough)) h.small) (omega (arith, client_generated O.t step, h.few_heard)));
+              (link_laws.client_sends O.t L.lawful op step accepted (others_apart i past rest h.star_ahead op h.rest_named h.down_inherits (λ n x. L.next_site i a.site.named (O.t.edit_of op) n next x))
+              (link_laws.small_le O.t L.lawful _ h.room h.from (omega (arith, h.enough)) h.small) (omega (arith, link_laws.client_generated O.t step, h.few_heard)));
           room = h.room;
           small = h.small;
           enough = h.enough;
@@ -409,7 +409,7 @@ module _ (O : Operations) (L : AreLawful O) where
 
     -- and keeps the order of its items
     pub made_keeps_order : O.t.keeps_order a.site.board (O.t.after op a.site.board)
-    made_keeps_order = L.keeps.order a.site.board op (client_distinct O.t L.lawful h.in_step) made_valid
+    made_keeps_order = L.keeps.order a.site.board op (link_laws.client_distinct O.t L.lawful h.in_step) made_valid
 
     -- no name that the site knew comes back by its edit
     pub made_none_back : (n : O.t.Name) → IsKnown O (own_counts O i a.site.named (λ j. named_by O i j past)) n → O.t.holds (O.t.after op a.site.board) n → O.t.holds a.site.board n

@@ -2,7 +2,7 @@
 use Rattle.std.proofs.Common.{inl, inr, ◌≡◌, List, [], ◌∷◌, ◌++◌, refl, sym, ◌∙◌, append_assoc, append-nil, ℕ, take, drop, ap, zero, suc, subst, ◌⊎◌, ◌+◌, ◌≤◌, ◌<◌, Bool, true, false, cond, nat_eq, arith, eq-eqb}
 use Rattle.jup_site.specs.Prelude.{row_operation, row_entries, AllApart, mirror, Msg, Message, sent, InStepAt, Operations, AreLawful, ups, downs, LinkState, AllByRecursion}
 use Rattle.jup_xform.specs.Rows.{SomeOf}
-use Rattle.jup_xform.specs.Laws.Grids.{AllApart-entry, IsLawful-mirror, row_operation-append}
+use Rattle.jup_xform.specs.Laws.Grids as grids
 use Rattle.jup_link.specs.Laws.Steps.{first_up, first_down}
 use Rattle.jup_site.specs.Turns.{IsIn, Turn, Own, Other, edits, own_edits, through_others, others}
 use Rattle.jup_site.specs.Sound.{SameMeaning, StandsFor, server_past_all, clients_past, client_past_all, servers_past, RowStands, Shows, IsKnown, ChangesKnown, IsMoved, named_by, Inherits, RawNamed, OrderNamed, Paired}
@@ -142,7 +142,7 @@ module _ (O : Operations) (L : AreLawful O) where
   row-past (c ∷ cs) [] s after next h apart k = absurd h
   row-past (c ∷ cs) (e ∷ es) s after next h apart k =
       let corner = column-past O L c s e after next apart.0 h.0 k in
-      let rest = row-past cs es (O.t.server_past s c) (after ++ e ∷ []) (next ++ e ∷ []) h.1 (AllApart-entry O.t L.lawful cs s c apart.1) corner in
+      let rest = row-past cs es (O.t.server_past s c) (after ++ e ∷ []) (next ++ e ∷ []) h.1 (grids.AllApart-entry O.t L.lawful cs s c apart.1) corner in
       ((stands-past O L c s e after next h.0 k, rest.0), simp append_assoc (simp append_assoc at rest.1))
 
   -- the site's next edit comes at the end of its row
@@ -166,7 +166,7 @@ module _ (O : Operations) (L : AreLawful O) where
   column-taken (Other j f ∷ ts) (b ∷ bs) told c e apart h k =
       let corner = column-past O L c b e (told ++ own_edits ts) ((told ++ f ∷ []) ++ own_edits ts) (L.lawful.apart_swap b c apart.0) k h.0 in
       let next = stands-past O L c b e (told ++ own_edits ts) ((told ++ f ∷ []) ++ own_edits ts) k h.0 in
-      let rest = column-taken ts bs (told ++ f ∷ []) (O.t.client_past c b) e (AllApart-entry (mirror O.t) (IsLawful-mirror O.t L.lawful) bs c b apart.1) h.1 next in
+      let rest = column-taken ts bs (told ++ f ∷ []) (O.t.client_past c b) e (grids.AllApart-entry (mirror O.t) (grids.IsLawful-mirror O.t L.lawful) bs c b apart.1) h.1 next in
       ((rw (own_edits-append ts (Own e ∷ [])) (simp append_assoc (simp append_assoc at corner)), rest.0), rw (append_assoc told (f ∷ []) (edits ts)) at rest.1)
 
   -- the server takes another site's operation
@@ -234,7 +234,7 @@ module _ (O : Operations) (L : AreLawful O) where
     past = h.past ++ c ∷ [];
     stands = h.stands;
     same = h.same;
-    is = ap (λ d. O.t.server_past d c) h.is ∙ sym (row_operation-append O.t.server_past h.applied h.past (c ∷ []));
+    is = ap (λ d. O.t.server_past d c) h.is ∙ sym (grids.row_operation-append O.t.server_past h.applied h.past (c ∷ []));
   }
 
   pub row-moved : (es : List O.Edit) (q : List O.Op) → AllByRecursion (IsMoved O es) q → (c : O.Op) → AllByRecursion (IsMoved O es) (row_entries O.t.client_past O.t.server_past c q)

@@ -3,7 +3,7 @@ use Rattle.std.proofs.Common.{◌≡◌, ℕ, ◌+◌, ◌-◌, ◌≤◌, ◌�
 use Rattle.std.proofs.lemmas.List.{drop-append-le, take-append-le}
 use Rattle.jup_site.specs.Prelude.{most_beyond, AllApart, Msg, Message, IsCount, IsNumber, received_operation, after_receive, sent, InStepAt, after_count, Operations, AreLawful, Up, UpOp, UpAck, UpPing, Down, DownOp, DownAck, DownPong, LogFull, ups, downs, LinkState, operation_at, link_heard, link_sent, link_acked, link_ponged, link_fetched, StarOf, up_fault, entry, edit_answer, with_end, deliver_fault, AllByRecursion}
 use Rattle.jup_xform.specs.Laws.Grids.{length-row_entries}
-use Rattle.jup_link.specs.Laws.Steps.{small_next, server_receives, generated-after_receive, client_counts, server_counts}
+use Rattle.jup_link.specs.Laws.Steps as link_laws
 use Rattle.jup_site.specs.Turns.{Turn, Own, Other, edits, own_edits, others, through_others, turns}
 use Rattle.jup_site.specs.Sound.{SameMeaning, StandsFor, client_past_all, servers_past, RowStands, Shows, edits_sent, named_by, IsKnown, own_counts, ChangesKnown, ChangesHeld, Inherits, RawNamed, OrderNamed, Paired, told_of, Standing, named_in, edits_in}
 use Rattle.jup_site.specs.Sites.{AttachedOf, with_edit, one_taken, one_handed, with_fetched}
@@ -75,11 +75,11 @@ module _ (O : Operations) (L : AreLawful O) where
 
     -- the operation that the star applies is the message's past all of them
     received_is : received_operation O.t l.end m.heard m.op ≡ client_past_all O c h.star_ahead
-    received_is = (server_receives O.t L.lawful h.link_side stepping).0
+    received_is = (link_laws.server_receives O.t L.lawful h.link_side stepping).0
 
     -- the star's end accepts the message, and its operation is valid there
     pub taken_fits : IsNumber l.end m.mine × IsCount l.end m.heard × O.t.is_valid (received_operation O.t l.end m.heard m.op) held
-    taken_fits = let came = server_receives O.t L.lawful h.link_side stepping in (came.1, came.2, came.3)
+    taken_fits = let came = link_laws.server_receives O.t L.lawful h.link_side stepping in (came.1, came.2, came.3)
 
     -- it means the edit after the whole_taken order
     pub taken_same : SameMeaning O ((edits past ++ edits rest) ++ O.t.edit_of (received_operation O.t l.end m.heard m.op) ∷ []) ((edits past ++ edits rest) ++ O.t.edit_of m.op ∷ [])
@@ -111,7 +111,7 @@ module _ (O : Operations) (L : AreLawful O) where
     stepped = subst
         (λ f. InStepAt O.t 0 (O.t.after c h.from) cs (servers_past O h.star_ahead c) a.site.board (O.t.after (received_operation O.t l.end m.heard m.op) held)
         a.site.end (after_receive O.t l.end m.heard m.op) f (downs (a.down ++ l.outbox)))
-        (sym left) (server_receives O.t L.lawful h.link_side stepping).4
+        (sym left) (link_laws.server_receives O.t L.lawful h.link_side stepping).4
 
     -- the order with the entry at its end
     whole_taken : past ++ (rest ++ Own (O.t.edit_of m.op) ∷ []) ≡ (past ++ rest) ++ Own (O.t.edit_of m.op) ∷ []
@@ -131,7 +131,7 @@ module _ (O : Operations) (L : AreLawful O) where
       link_side = h.link_side;
       in_step = stepped;
       room = h.room - 1;
-      small = small_next O.t L.lawful h.room (h.room - 1) h.from c (omega (arith, h.enough)) h.small stepping.states.near_valid.0;
+      small = link_laws.small_next O.t L.lawful h.room (h.room - 1) h.from c (omega (arith, h.enough)) h.small stepping.states.near_valid.0;
       enough = omega (arith, h.enough, ap length whole_taken, length-append (past ++ rest) (Own (O.t.edit_of m.op) ∷ []), length-row_entries O.t.client_past O.t.server_past c h.star_ahead);
       raw = edits_sent O us;
       raw_sent = ap (edits_sent O) left;
@@ -155,7 +155,7 @@ module _ (O : Operations) (L : AreLawful O) where
       goes_on = h.goes_on;
       backlog = h.backlog;
       few_heard = omega (arith, h.few_heard, ap length whole_taken, length-append (past ++ rest) (Own (O.t.edit_of m.op) ∷ []));
-      few_sent = omega (arith, h.few_sent, ap length whole_taken, length-append (past ++ rest) (Own (O.t.edit_of m.op) ∷ []), generated-after_receive O.t l.end m.heard m.op taken_fits.1);
+      few_sent = omega (arith, h.few_sent, ap length whole_taken, length-append (past ++ rest) (Own (O.t.edit_of m.op) ∷ []), link_laws.generated-after_receive O.t l.end m.heard m.op taken_fits.1);
     }
       where
         from_held : (n : O.t.Name) → O.t.holds h.from n ⊎ O.t.inserts (O.t.edit_of c) n → IsKnown O (own_counts O i (named_by O i i (past ++ rest) + O.insertions (O.t.edit_of m.op)) (λ j. named_by O i j past)) n
@@ -313,7 +313,7 @@ module _ (O : Operations) (L : AreLawful O) (most : ℕ) (first : O.t.Content) (
   pub place-ack_fits : (k : ℕ) (us : List (Up O.Op)) → a.up ≡ UpAck k ∷ us → up_fault O s l (UpAck k) ≡ None
   place-ack_fits k us rising =
       let step = subst (λ r. InStepAt O.t 0 st.pair.from st.pair.site_ahead st.pair.star_ahead a.site.board s.board a.site.end l.end (ups r) (downs (a.down ++ l.outbox))) rising st.pair.in_step in
-      fitting.take_ack O L s l k (server_counts O.t L.lawful step).0
+      fitting.take_ack O L s l k (link_laws.server_counts O.t L.lawful step).0
 
   -- a ping of its
   pub place-asked : (k : ℕ) (us : List (Up O.Op)) → a.up ≡ UpPing k ∷ us → Standing O most first (turns i s.order) s.board mine joined n i (link_ponged k l) (one_taken O a)
@@ -380,7 +380,7 @@ module _ (O : Operations) (L : AreLawful O) (most : ℕ) (first : O.t.Content) (
       accepts.2
   place-fits (DownAck k) gone falling comes =
       let step = subst (λ r. InStepAt O.t 0 st.pair.from st.pair.site_ahead st.pair.star_ahead a.site.board s.board a.site.end l.end (ups a.up) r) comes st.pair.in_step in
-      fitting.deliver_ack O L a.site k st.pair.goes_on (client_counts O.t L.lawful step).0
+      fitting.deliver_ack O L a.site k st.pair.goes_on (link_laws.client_counts O.t L.lawful step).0
   place-fits (DownPong k) gone falling comes = fitting.deliver_pong O L a.site k st.pair.goes_on
 
   -- messages were fetched, and no more

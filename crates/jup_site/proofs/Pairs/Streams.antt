@@ -1,7 +1,7 @@
 -- Acknowledgements, pings and moved messages: a site and its link stay in step.
 use Rattle.std.proofs.Common.{◌≡◌, List, [], ◌∷◌, ◌++◌, refl, sym, ◌∙◌, append_assoc, append-nil, ℕ, ap, subst, ◌≤◌, Bool, true, false, arith, if◌then◌else◌, length, Some, None, option_to_list}
 use Rattle.jup_site.specs.Prelude.{Client, Server, InStepAt, Link, Ack, generated, after_count, after_ack, answered, owes, Operations, AreLawful, Up, Down, UpAck, UpPing, DownAck, DownPong, ups, downs, LinkState, owed_down, link_acked, link_ponged, with_end, owed_up, ups-append, downs-append, AllByRecursion}
-use Rattle.jup_link.specs.Laws.Steps.{client_acks, server_acks, client_counts, server_counts, length-after_count, generated-after_count}
+use Rattle.jup_link.specs.Laws.Steps as link_laws
 use Rattle.jup_site.specs.Turns.{Turn}
 use Rattle.jup_site.specs.Sound.{Paired, edits_sent}
 use Rattle.jup_site.specs.Sites.{AttachedOf, pinged}
@@ -72,7 +72,7 @@ module _ (O : Operations) (L : AreLawful O) where
     pair-site_pays =
         pair-link (after_ack a.site.end) l.end (a.up ++ UpAck a.site.end.received ∷ []) a.down l.outbox h.site_side h.link_side
         (subst (λ r. InStepAt O.t 0 h.from h.site_ahead h.star_ahead a.site.board held (after_ack a.site.end) l.end r (downs (a.down ++ l.outbox))) (sym (ups-append a.up (UpAck a.site.end.received ∷ [])))
-        (client_acks O.t L.lawful h.in_step))
+        (link_laws.client_acks O.t L.lawful h.in_step))
         (ap (edits_sent O) (ups-append a.up (UpAck a.site.end.received ∷ [])) ∙ edits_sent-append O L (ups a.up) (Ack a.site.end.received ∷ []) ∙ append-nil (edits_sent O (ups a.up)))
         refl (omega arith) refl refl
 
@@ -93,7 +93,7 @@ module _ (O : Operations) (L : AreLawful O) where
     pair-link_pays =
         pair-link a.site.end (after_ack l.end) a.up a.down (l.outbox ++ DownAck l.end.received ∷ []) h.site_side h.link_side
         (subst (λ f. InStepAt O.t 0 h.from h.site_ahead h.star_ahead a.site.board held a.site.end (after_ack l.end) (ups a.up) f) (sym (stream (DownAck l.end.received)))
-        (server_acks O.t L.lawful h.in_step))
+        (link_laws.server_acks O.t L.lawful h.in_step))
         refl
         (ap (edits_sent O) (stream (DownAck l.end.received)) ∙ edits_sent-append O L (downs (a.down ++ l.outbox)) (Ack l.end.received ∷ []) ∙ append-nil (edits_sent O (downs (a.down ++ l.outbox))))
         (omega arith) refl refl
@@ -115,11 +115,11 @@ module _ (O : Operations) (L : AreLawful O) where
         → Paired O most i first past rest held mine (link_acked n l) (site_with a a.site.end rising a.down)
     pair-up_acked n rising e =
         let step = subst (λ r. InStepAt O.t 0 h.from h.site_ahead h.star_ahead a.site.board held a.site.end l.end (ups r) (downs (a.down ++ l.outbox))) e h.in_step in
-        let taken = server_counts O.t L.lawful step in
+        let taken = link_laws.server_counts O.t L.lawful step in
         pair-link a.site.end (after_count l.end n) rising a.down l.outbox h.site_side h.link_side
         taken.1
         (sym (ap (λ r. edits_sent O (ups r)) e)) refl (omega arith) refl
-        (generated-after_count O.t l.end n taken.0)
+        (link_laws.generated-after_count O.t l.end n taken.0)
 
     -- the star answers a ping
     pub pair-up_asked : (k : ℕ) (rising : List (Up O.Op)) → a.up ≡ UpPing k ∷ rising
@@ -131,7 +131,7 @@ module _ (O : Operations) (L : AreLawful O) where
         → Paired O most i first past rest held mine (link_with l l.end outbox) (site_with a (after_count a.site.end n) a.up falling)
     pair-down_acked n falling outbox e =
         let step = subst (λ r. InStepAt O.t 0 h.from h.site_ahead h.star_ahead a.site.board held a.site.end l.end (ups a.up) r) e h.in_step in
-        let taken = client_counts O.t L.lawful step in
+        let taken = link_laws.client_counts O.t L.lawful step in
         pair-link (after_count a.site.end n) l.end a.up falling outbox h.site_side h.link_side
         taken.1
-        refl (sym (ap (edits_sent O) e)) (length-after_count O.t a.site.end n) refl refl
+        refl (sym (ap (edits_sent O) e)) (link_laws.length-after_count O.t a.site.end n) refl refl

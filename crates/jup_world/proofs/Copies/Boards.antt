@@ -1,14 +1,14 @@
 -- A board that a site once showed, beside the star.
 use Rattle.std.proofs.Common.{sym, ◌≡◌, ◌⊎◌, ℕ, ◌+◌, inl, inr, false, List, [], ◌∷◌, ◌++◌, nat_eq, refl, ap, ◌∙◌, subst, Option, Some, None, option_map, arith, ◌<◌, append_assoc, append-nil, ne_eqb}
 use Rattle.jup_world.specs.Prelude.{Msg, Operations, AreLawful, Up, UpOp, UpAck, UpPing, LinkState, operation_at, link_heard, link_sent, link_acked, link_ponged, StarOf, up_fault, taken, link_of, opened_link, link_fetched, at_link, with_links, joined, left, found-end_other}
-use Rattle.jup_world.specs.Traces.{made, joined_at, shown_count}
+use Rattle.jup_world.specs.Traces as traces
 use Rattle.jup_world.specs.Worlds.{AttachedOf, one_taken, with_edit, one_handed, pinged, with_fetched, attached, at_site, WorldOf, EventOf, Outcome, new_site, outcome, only_fetched, happens}
 use Rattle.jup_world.specs.Sound.{IsSound}
 use Rattle.jup_world.proofs.Sound.Traces.{standing_of}
 use Rattle.jup_site.proofs.Follows.{Follows}
-use Rattle.jup_world.proofs.Orders.{given_before, event-follows}
+use Rattle.jup_world.proofs.Orders as orders
 use Rattle.jup_world.proofs.EventSteps as steps
-use Rattle.jup_site.proofs.Numbers.{map_kept, at_one, at_all, at_removal}
+use Rattle.jup_site.proofs.Numbers as numbers
 use Rattle.jup_site.proofs.PastBoards as taking
 
 -- Over any run: what a site once showed and what the star shows are in one order.
@@ -47,7 +47,7 @@ module _ (O : Operations) (L : AreLawful O) where
         → (l : LinkState O.Op) (a : AttachedOf O) → link_of j w.star.links ≡ Some l → attached j w.sites ≡ Some a → l.end ≡ (f l).end → (more : List (Up O.Op)) → (g a).up ≡ a.up ++ more
         → PastBoardAt most (O.t.content w.opening) i x (with_links w.star (at_link j f w.star.links)) (at_site j g w.sites)
     sends_more j f g kf kg l a fl fa ends more grown =
-        at_one (λ k. k.site) (λ b. b.site.number) (Here (with_links w.star (at_link j f w.star.links))) j f g kf kg w.star.links w.sites l (Some a) fl fa
+        numbers.at_one (λ k. k.site) (λ b. b.site.number) (Here (with_links w.star (at_link j f w.star.links))) j f g kf kg w.star.links w.sites l (Some a) fl fa
         (λ is. same_star (with_links w.star (at_link j f w.star.links)) _ _ refl refl
         (grows (taking.goes_here O L symmetric most (O.t.content w.opening) w.star s.star.star i x _ _ h l a (link_is j l fl is) (site_is j a fa is))))
         (λ n apart. stays (with_links w.star (at_link j f w.star.links)) refl refl n) i refl
@@ -60,7 +60,7 @@ module _ (O : Operations) (L : AreLawful O) where
     -- the link stays
     site_sends : (j : ℕ) (g : AttachedOf O → AttachedOf O) → ((b : AttachedOf O) → (g b).site.number ≡ b.site.number) → (l : LinkState O.Op) (a : AttachedOf O) → link_of j w.star.links ≡ Some l → attached j w.sites ≡ Some a
         → (more : List (Up O.Op)) → (g a).up ≡ a.up ++ more → PastBoardAt most (O.t.content w.opening) i x w.star (at_site j g w.sites)
-    site_sends j g kg l a fl fa more grown = subst (λ ls. PastBoardAt most (O.t.content w.opening) i x (with_links w.star ls) (at_site j g w.sites)) (map_kept (λ k. k.site) j w.star.links)
+    site_sends j g kg l a fl fa more grown = subst (λ ls. PastBoardAt most (O.t.content w.opening) i x (with_links w.star ls) (at_site j g w.sites)) (numbers.map_kept (λ k. k.site) j w.star.links)
         (sends_more j (λ k. k) g (λ k. refl) kg l a fl fa refl more grown)
 
     -- a stranger joins, or a site
@@ -87,7 +87,7 @@ module _ (O : Operations) (L : AreLawful O) where
         → (j ≡ i → taking.IsTaken O L w.star x ⊎ taking.IsBeingTaken O L most (O.t.content w.opening) w.star i x (Some (f l)) (option_map (one_taken O) oa))
         → PastBoardAt most (O.t.content w.opening) i x (with_links w.star (at_link j f w.star.links)) (at_site j (one_taken O) w.sites)
     takes_count j f kf l oa fl fa own =
-        at_one (λ k. k.site) (λ b. b.site.number) (Here (with_links w.star (at_link j f w.star.links))) j f (one_taken O) kf (λ b. refl) w.star.links w.sites l oa fl fa
+        numbers.at_one (λ k. k.site) (λ b. b.site.number) (Here (with_links w.star (at_link j f w.star.links))) j f (one_taken O) kf (λ b. refl) w.star.links w.sites l oa fl fa
         (λ is. elim (own is) [
           | inl t ↦ inr (record { order = t.order; known = t.known })
           | inr n ↦ inl (taking.taking_same O L symmetric most (O.t.content w.opening) w.star s.star.star i x _ _ n (with_links w.star (at_link j f w.star.links)) _ _ refl refl n.goes)
@@ -99,7 +99,7 @@ module _ (O : Operations) (L : AreLawful O) where
         → (j ≡ i → taking.IsTaken O L w.star x ⊎ taking.IsBeingTaken O L most (O.t.content w.opening) (taken O i (UpOp m) l w.star) i x (Some (link_heard O m l)) (option_map (one_taken O) oa))
         → Follows O L w.star (taken O j (UpOp m) l w.star) → PastBoardAt most (O.t.content w.opening) i x (taken O j (UpOp m) l w.star) (at_site j (one_taken O) w.sites)
     takes_edit j l oa fl fa m none own follows =
-        at_all (λ k. k.site) (λ b. b.site.number) (Here (taken O j (UpOp m) l w.star)) j (link_heard O m) (link_sent (operation_at O l.end m)) (one_taken O) (λ k. refl) (λ k. refl) (λ b. refl) w.star.links w.sites l oa fl fa
+        numbers.at_all (λ k. k.site) (λ b. b.site.number) (Here (taken O j (UpOp m) l w.star)) j (link_heard O m) (link_sent (operation_at O l.end m)) (one_taken O) (λ k. refl) (λ k. refl) (λ b. refl) w.star.links w.sites l oa fl fa
         (λ is. elim (own is) [
           | inl t ↦ inr (taking.taken_on O L w.star (taken O j (UpOp m) l w.star) x follows t)
           | inr n ↦ inl (subst (λ k. taking.IsBeingTaken O L most (O.t.content w.opening) (taken O k (UpOp m) l w.star) i x (Some (link_heard O m l)) (option_map (one_taken O) oa)) (sym is) n)
@@ -114,7 +114,7 @@ module _ (O : Operations) (L : AreLawful O) where
     taking_step e o follows (steps.Enters none) = enters
     taking_step e o follows (steps.EntersStray none) = enters_stray
     taking_step e o follows (steps.Goes j l oa fl fa why) =
-        at_removal (λ k. k.site) (λ b. b.site.number) (Here (left j w.star)) j w.star.links w.sites
+        numbers.at_removal (λ k. k.site) (λ b. b.site.number) (Here (left j w.star)) j w.star.links w.sites
         (λ is. same_star (left j w.star) None None refl refl (λ k p. absurd (cc)))
         (λ n apart. stays (left j w.star) refl refl n) i refl
     taking_step e o follows (steps.Makes j command l a op fl fa ok) = site_sends j (with_edit O op) (λ b. refl) l a fl fa _ refl
@@ -147,11 +147,11 @@ module _ (O : Operations) (L : AreLawful O) where
   was_here most w s i a fa =
       let st = standing_of O L most w s i a fa in
       record {
-        old = λ above. given_before O L most w s i a fa above;
+        old = λ above. orders.given_before O L most w s i a fa above;
         past = inl (record {
-          joined = joined_at O i w.trace;
-          shown = shown_count i w.trace;
-          mine = made i w.trace;
+          joined = traces.joined_at O i w.trace;
+          shown = traces.shown_count i w.trace;
+          mine = traces.made i w.trace;
           link = st.0;
           site = a;
           stands = st.1;
@@ -164,10 +164,10 @@ module _ (O : Operations) (L : AreLawful O) where
     -- each event keeps it, and so does a fetch
     pub was_happens : (most : ℕ) (w : WorldOf O) (s : IsSound O most w) (i : ℕ) (x : O.State) (e : EventOf O) → WasShown most w i x → WasShown most (happens O w e) i x
     was_happens most w s i x e was = record {
-      old = λ above. (let given = (event-follows O L most w s e).given in was.old (omega arith));
+      old = λ above. (let given = (orders.event-follows O L most w s e).given in was.old (omega arith));
       past = elim was.past [
-        | inl h ↦ taking_step symmetric most w s i x was.old h e (outcome O w e) (event-follows O L most w s e) (steps.step_of O w e)
-        | inr t ↦ inr (taking.taken_on O L w.star (outcome O w e).star x (event-follows O L most w s e) t)
+        | inl h ↦ taking_step symmetric most w s i x was.old h e (outcome O w e) (orders.event-follows O L most w s e) (steps.step_of O w e)
+        | inr t ↦ inr (taking.taken_on O L w.star (outcome O w e).star x (orders.event-follows O L most w s e) t)
       ];
     }
 

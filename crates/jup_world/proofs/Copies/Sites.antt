@@ -6,10 +6,10 @@ use Rattle.jup_world.specs.Events.{Up as MoveUp, Stray}
 use Rattle.jup_world.specs.Traces.{turn, turns, first_of_site, made, stray_entry, entry_taken, order_of, joined_at, shown_count, OrdersAgree}
 use Rattle.jup_world.specs.Worlds.{attached, WorldOf, EventOf, ReplyOf, HappenedOf, opened_world, outcome, happens, run, only_fetched, AttachedOf}
 use Rattle.jup_world.specs.Sound.{named_by, named_in, IsKnown, own_counts, told_of, Standing, IsSound}
-use Rattle.jup_world.specs.Boards.{BoardWorld, BoardLink, BoardAttached, BoardEvent}
+use Rattle.jup_world.specs.Boards as boards
 use Rattle.jup_world.specs.Happenings.{IsWorld, IsSpared, IsLaneWorld}
 use Rattle.jup_world.specs.Lanes.{LaneEvent, Plain, PushUp, PushDown, LaneWorld, messages_of, messages_after, Steps, AllTried, IsSparedBy}
-use Rattle.jup_site.proofs.Known.{named_by-append, known_more, own_counts-more}
+use Rattle.jup_site.proofs.Known as known_names
 use Rattle.jup_site.proofs.Turns.{length-turns, named-turns}
 use Rattle.jup_world.proofs.Sound.Traces.{standing_of}
 use Rattle.jup_world.proofs.Sound.Runs.{sound-happens, sound-run}
@@ -53,7 +53,7 @@ module _ (O : Operations) (L : AreLawful O) where
       let rest : p ++ p' ≡ q ++ q' = cc in
       let same : named_by O 0 m (turn 0 r ∷ []) ≡ named_by O 0 m (turn 0 t ∷ []) = ap (λ x. named_by O 0 m (turn 0 x ∷ [])) head in
       let more = named_more m p p' q q' rest (omega arith) in
-      omega (arith, same, more, named_by-append O L 0 m (turn 0 r ∷ []) (turns 0 p), named_by-append O L 0 m (turn 0 t ∷ []) (turns 0 q))
+      omega (arith, same, more, known_names.named_by-append O L 0 m (turn 0 r ∷ []) (turns 0 p), known_names.named_by-append O L 0 m (turn 0 t ∷ []) (turns 0 q))
 
   -- how many of the first entries of the order have reached a site, and what these name
   abbrev pub told_count : WorldOf O → ℕ → ℕ
@@ -121,8 +121,8 @@ module _ (O : Operations) (L : AreLawful O) where
       shown = past_boards.was_here O L most w s i a fa;
       later = drop (told_count w i) w.star.order;
       grows = sym (take-append-drop (told_count w i) w.star.order);
-      known = λ n held. known_more O L (own_counts O i a.site.named (λ m. named_by O i m (orders.told_turns O L w i))) (own_counts O i a.site.named (named_in O (take (told_count w i) w.star.order))) n
-          (own_counts-more O L i a.site.named a.site.named (λ m. named_by O i m (orders.told_turns O L w i)) (named_in O (take (told_count w i) w.star.order)) (le_refl a.site.named) (λ m. omega (arith, told_named w i m)))
+      known = λ n held. known_names.known_more O L (own_counts O i a.site.named (λ m. named_by O i m (orders.told_turns O L w i))) (own_counts O i a.site.named (named_in O (take (told_count w i) w.star.order))) n
+          (known_names.own_counts-more O L i a.site.named a.site.named (λ m. named_by O i m (orders.told_turns O L w i)) (named_in O (take (told_count w i) w.star.order)) (le_refl a.site.named) (λ m. omega (arith, told_named w i m)))
           (st.1.pair.board_known n held);
       stars = λ k h. (let was = past k h in (
         was.0,
@@ -241,13 +241,13 @@ module _ (O : Operations) (L : AreLawful O) where
 -- Any two copies of the board in a world whose links carry bytes, after events of which some were refused because an allocation failed.
 
 -- What each event keeps, and a fetch without more, is kept by events in turn of which each happened or was refused.
-lane_keeps : (P : BoardWorld → Type 0) → ((w : BoardWorld) → IsWorld w → (e : BoardEvent) → P w → P (happens board_batches w e))
-    → ((w : BoardWorld) → IsWorld w → (i : ℕ) (l : BoardLink) (a : BoardAttached) → link_of i w.star.links ≡ Some l → attached i w.sites ≡ Some a → P w → P (only_fetched board_batches w i 1 l))
+lane_keeps : (P : boards.BoardWorld → Type 0) → ((w : boards.BoardWorld) → IsWorld w → (e : boards.BoardEvent) → P w → P (happens board_batches w e))
+    → ((w : boards.BoardWorld) → IsWorld w → (i : ℕ) (l : boards.BoardLink) (a : boards.BoardAttached) → link_of i w.star.links ≡ Some l → attached i w.sites ≡ Some a → P w → P (only_fetched board_batches w i 1 l))
     → (events : List LaneEvent) (w v : LaneWorld) → IsLaneWorld w → AllTried w events v → P (messages_of w) → P (messages_of v)
 lane_keeps P event fetch [] w v is same p = subst (λ (u : LaneWorld). P (messages_of u)) (sym same) p
 lane_keeps P event fetch (e ∷ es) w v is next p = lane_keeps P event fetch es next.0 v (lane_worlds.try_keeps w e next.0 is next.1) next.2 (one next.1)
   where
-    spared : (u : BoardWorld) → IsSpared (messages_of w) u → P u
+    spared : (u : boards.BoardWorld) → IsSpared (messages_of w) u → P u
     spared u (inl same) = subst P (sym same) p
     spared u (inr more) = subst P (sym more.5) (fetch (messages_of w) is.world more.0 more.1 more.2 more.3 more.4 p)
 
@@ -277,7 +277,7 @@ module _ (symmetric : (x y : Windows) → board_batches.t.keeps_order x y → bo
   seen i = take (told_count board_batches batch_laws (messages_of u) i) u.star.order
 
   -- and what it showed then is a past board
-  was_copy : (i : ℕ) (a : BoardAttached) → attached i (messages_of u).sites ≡ Some a → WasCopy board_batches batch_laws symmetric most_batches (messages_of v) i a.site.board a.site.named (seen i)
+  was_copy : (i : ℕ) (a : boards.BoardAttached) → attached i (messages_of u).sites ≡ Some a → WasCopy board_batches batch_laws symmetric most_batches (messages_of v) i a.site.board a.site.named (seen i)
   was_copy i a fa = lane_keeps (λ w. WasCopy board_batches batch_laws symmetric most_batches w i a.site.board a.site.named (seen i))
       (λ w is e was. copy_happens board_batches batch_laws symmetric most_batches w is.board.sound i a.site.board a.site.named (seen i) e was)
       (λ w is j l b fl fb was. copy_fetched board_batches batch_laws symmetric most_batches w is.board.sound i a.site.board a.site.named (seen i) j 1 l b fl fb was)
@@ -288,7 +288,7 @@ module _ (symmetric : (x y : Windows) → board_batches.t.keeps_order x y → bo
   tried_copies x y (inl p) (inl q) = subst (λ z. board_batches.t.keeps_order z y) (sym p) (subst (board_batches.t.keeps_order u.star.board) (sym q) (lane_worlds.tried_order events u v is steps).star)
   tried_copies x y (inl p) (inr c) = subst (λ z. board_batches.t.keeps_order z y) (sym p) (subst (board_batches.t.keeps_order u.star.board) (sym c.3) (star_site c.0 c.1 c.2))
     where
-      star_site : (j : ℕ) (b : BoardAttached) → attached j (messages_of v).sites ≡ Some b → board_batches.t.keeps_order u.star.board b.site.board
+      star_site : (j : ℕ) (b : boards.BoardAttached) → attached j (messages_of v).sites ≡ Some b → board_batches.t.keeps_order u.star.board b.site.board
       star_site j b fb =
           let st = standing_of board_batches batch_laws most_batches (messages_of v) later_lanes.world.board.sound j b fb in
           past_stars.past_order board_batches batch_laws symmetric most_batches (messages_of v) u.star was_star j st.0 b st.2 fb
@@ -296,7 +296,7 @@ module _ (symmetric : (x y : Windows) → board_batches.t.keeps_order x y → bo
       (past_boards.was_order board_batches batch_laws symmetric most_batches (messages_of v) later_lanes.world.board.sound d.0 d.1.site.board (was_copy d.0 d.1 d.2).shown))
   tried_copies x y (inr d) (inr c) = subst (λ z. board_batches.t.keeps_order z y) (sym d.3) (subst (board_batches.t.keeps_order d.1.site.board) (sym c.3) (site_site d.0 c.0 d.1 c.1 d.2 c.2))
     where
-      site_site : (i j : ℕ) (a b : BoardAttached) → attached i (messages_of u).sites ≡ Some a → attached j (messages_of v).sites ≡ Some b → board_batches.t.keeps_order a.site.board b.site.board
+      site_site : (i j : ℕ) (a b : boards.BoardAttached) → attached i (messages_of u).sites ≡ Some a → attached j (messages_of v).sites ≡ Some b → board_batches.t.keeps_order a.site.board b.site.board
       site_site i j a b fa fb = cases (nat_eq i j) refl
         where
           cases : (c : Bool) → nat_eq i j ≡ c → board_batches.t.keeps_order a.site.board b.site.board

@@ -6,7 +6,7 @@ use Rattle.jup_world.specs.Worlds.{AttachedOf, attached, WorldOf, EventOf, outco
 use Rattle.jup_world.specs.Sound.{moment_of, IsSoundStar, IsSound}
 use Rattle.jup_site.specs.Moments.{told_count}
 use Rattle.jup_site.proofs.Known.{Since}
-use Rattle.jup_site.proofs.Follows.{StarKnows, Follows, follows-same, follows-chain}
+use Rattle.jup_site.proofs.Follows as following
 use Rattle.jup_site.proofs.Numbers.{either}
 use Rattle.jup_site.proofs.Past as recalling
 use Rattle.jup_world.proofs.Orders.{event-follows, order_grows}
@@ -25,7 +25,7 @@ module _ (O : Operations) (L : AreLawful O) (symmetric : (x y : O.State) → O.t
   -- A star that the world once had, from which the present one went on. Each site has received all that it had sent, or still has some of it to receive.
   pub record WasStar (w : WorldOf O) (z : StarOf O) : Type 0 where
     pub sound : IsSoundStar O most (O.t.content w.opening) z
-    pub follows : Follows O L z w.star
+    pub follows : following.Follows O L z w.star
     pub more : List (Entry O.Edit)
     pub grows : w.star.order ≡ z.order ++ more
     pub sites : (j : ℕ) (l : LinkState O.Op) (b : AttachedOf O) → link_of j w.star.links ≡ Some l → attached j w.sites ≡ Some b → WasBeside w z j l b
@@ -34,7 +34,7 @@ module _ (O : Operations) (L : AreLawful O) (symmetric : (x y : O.State) → O.t
   pub was_now : (w : WorldOf O) → IsSound O most w → WasStar w w.star
   was_now w s = record {
     sound = s.star.star;
-    follows = follows-same O L w.star w.star (omega arith) refl refl;
+    follows = following.follows-same O L w.star w.star (omega arith) refl refl;
     more = [];
     grows = sym (append-nil w.star.order);
     sites = λ j l b fl fb. recalling.was-now O L symmetric most (O.t.content w.opening) (joined_at O j w.trace) j (moment_of O w j l b) (beside O L most w s j l b fl fb);
@@ -48,7 +48,7 @@ module _ (O : Operations) (L : AreLawful O) (symmetric : (x y : O.State) → O.t
     past_order = recalling.was-order O L symmetric most (O.t.content w.opening) (joined_at O j w.trace) j z (moment_of O w j l b) (was.sites j l b fl fb)
 
     -- and if as many entries have reached the site as the star had, the star showed what it knew of all that the site shows
-    pub past_since : told_count O (joined_at O j w.trace) j (moment_of O w j l b) ≡ length z.order → Since O L (StarKnows O L z) z.board b.site.board
+    pub past_since : told_count O (joined_at O j w.trace) j (moment_of O w j l b) ≡ length z.order → Since O L (following.StarKnows O L z) z.board b.site.board
     past_since = recalling.was-since O L symmetric most (O.t.content w.opening) (joined_at O j w.trace) j z (moment_of O w j l b) (was.sites j l b fl fb)
 
   module _ (w : WorldOf O) (s : IsSound O most w) (z : StarOf O) (was : WasStar w z) where
@@ -67,7 +67,7 @@ module _ (O : Operations) (L : AreLawful O) (symmetric : (x y : O.State) → O.t
     pub was_star_happens : (e : EventOf O) → WasStar (happens O w e) z
     was_star_happens e = record {
       sound = was.sound;
-      follows = follows-chain O L z w.star (happens O w e).star was.sound.board_known was.follows (event-follows O L most w s e);
+      follows = following.follows-chain O L z w.star (happens O w e).star was.sound.board_known was.follows (event-follows O L most w s e);
       more = was.more ++ entry_taken O w.trace (order_of O w.trace) e (outcome O w e).reply;
       grows = order_grows O L most w s e ∙ ap (λ os. os ++ entry_taken O w.trace (order_of O w.trace) e (outcome O w e).reply) was.grows
           ∙ append_assoc z.order was.more (entry_taken O w.trace (order_of O w.trace) e (outcome O w e).reply);
@@ -87,7 +87,7 @@ module _ (O : Operations) (L : AreLawful O) (symmetric : (x y : O.State) → O.t
     pub was_star_fetched : (i n : ℕ) (l : LinkState O.Op) (a : AttachedOf O) → link_of i w.star.links ≡ Some l → attached i w.sites ≡ Some a → WasStar (only_fetched O w i n l) z
     was_star_fetched i n l a fl fa = record {
       sound = was.sound;
-      follows = follows-chain O L z w.star (fetched i n w.star) was.sound.board_known was.follows (follows-same O L w.star (fetched i n w.star) (omega arith) refl refl);
+      follows = following.follows-chain O L z w.star (fetched i n w.star) was.sound.board_known was.follows (following.follows-same O L w.star (fetched i n w.star) (omega arith) refl refl);
       more = was.more;
       grows = was.grows;
       sites = λ j k c fk fc. let from = fetched-from O L most w s i n l a fl fa j c fc in goes (only_fetched O w i n l) refl j from.0 c from.1 from.2 k fk;

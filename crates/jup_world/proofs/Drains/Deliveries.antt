@@ -5,16 +5,16 @@ use Rattle.std.proofs.lemmas.List.{nil_from_length}
 use Rattle.jup_world.specs.Prelude.{Msg, Link, owes, next_message, Operations, AreLawful, board_batches, BoardBatch, batch_laws, Up, UpOp, UpAck, UpPing, Down, DownOp, DownAck, DownPong, StarOf, owed_down, link_acked, link_ponged, link_fetched, link_sent, link_heard, operation_at, end_after, link_of, without, at_link, links_after, most_batches, BoardStar, sent_back, Attached, Nothing}
 use Rattle.jup_world.specs.Events.{Up as MoveUp, Down as MoveDown}
 use Rattle.jup_world.specs.Worlds.{WorldOf, EventOf, attached, IsQuiet, Outcome, outcome, at_site, without_site, happens, is_number, AreAscending, AttachedOf, one_taken, one_handed}
-use Rattle.jup_world.specs.Sound.{IsSound, UpReplies, DownReplies, RepliesTo}
+use Rattle.jup_world.specs.Sound as soundness
 use Rattle.jup_world.specs.Boards.{BoardWorld, BoardLink, BoardAttached, BoardEvent, AllAgree}
 use Rattle.jup_world.specs.Lanes.{IsDelivery}
 use Rattle.jup_world.specs.Drains.{up_weight, down_weight, link_weight, sum_to, weight_of, weight}
 use Rattle.jup_world.specs.Insides.{bare_attached}
-use Rattle.jup_world.specs.Traces.{Promises, BacklogIsShort, Tallies}
+use Rattle.jup_world.specs.Traces as traces
 use Rattle.jup_world.specs.Happenings.{IsQuietAt, AllQuiet, IsWorld}
 use Rattle.jup_world.proofs.EventSteps as steps
 use Rattle.jup_site.proofs.Numbers.{at_one, at_all, at_removal}
-use Rattle.jup_world.proofs.Sound.Runs.{replies, sound-promises, sound-backlog}
+use Rattle.jup_world.proofs.Sound.Runs as sound_runs
 use Rattle.jup_world.proofs.Worlds.{link_given, are_linked}
 use Rattle.jup_world.proofs.Sound.Traces.{standing_of}
 use Rattle.jup_world.proofs.Sound.Tallies.{tallies}
@@ -28,7 +28,7 @@ both_empty (x ∷ xs) ys e = absurd cc
 
 module _ (O : Operations) (L : AreLawful O) where
   -- nothing is on its way up if nothing is answered
-  none_up : (s : StarOf O) (us : List (Up O.Op)) → UpReplies O s us Nothing → us ≡ []
+  none_up : (s : StarOf O) (us : List (Up O.Op)) → soundness.UpReplies O s us Nothing → us ≡ []
   none_up s [] r = refl
   none_up s (UpOp m ∷ us) r = cases (nat_le s.limit (length s.order)) refl
     where
@@ -39,20 +39,20 @@ module _ (O : Operations) (L : AreLawful O) where
   none_up s (UpPing k ∷ us) r = absurd cc
 
   -- nor down
-  none_down : (ds : List (Down O.Op)) → DownReplies O ds Nothing → ds ≡ []
+  none_down : (ds : List (Down O.Op)) → soundness.DownReplies O ds Nothing → ds ≡ []
   none_down [] r = refl
   none_down (DownOp m ∷ ds) r = absurd cc
   none_down (DownAck n ∷ ds) r = absurd cc
   none_down (DownPong k ∷ ds) r = absurd cc
 
   -- if no delivery at an attached site answers anything, no message is on its way
-  pub nothing_quiet : (most : ℕ) (w : WorldOf O) → IsSound O most w
+  pub nothing_quiet : (most : ℕ) (w : WorldOf O) → soundness.IsSound O most w
       → ((i : ℕ) (a : AttachedOf O) → attached i w.sites ≡ Some a → ((outcome O w (MoveUp i)).reply ≡ Nothing) × ((outcome O w (MoveDown i)).reply ≡ Nothing))
       → IsQuiet O w
   nothing_quiet most w s nothing i l a fl fa =
       let both = nothing i a fa in
-      let up = subst (λ r. RepliesTo O w (MoveUp i) r) both.0 (replies O L most w s (MoveUp i)) in
-      let down = subst (λ r. RepliesTo O w (MoveDown i) r) both.1 (replies O L most w s (MoveDown i)) in
+      let up = subst (λ r. soundness.RepliesTo O w (MoveUp i) r) both.0 (sound_runs.replies O L most w s (MoveUp i)) in
+      let down = subst (λ r. soundness.RepliesTo O w (MoveDown i) r) both.1 (sound_runs.replies O L most w s (MoveDown i)) in
       let below = both_empty a.down l.outbox (none_down (a.down ++ l.outbox) (down.present l a fl fa)) in
       (none_up w.star a.up (up.present l a fl fa), below.0, below.1)
 
@@ -140,7 +140,7 @@ owed_up_little : (given : ℕ) (e : Link BoardBatch) (b : Bool) → up_weight gi
 owed_up_little given e true = omega arith
 owed_up_little given e false = omega arith
 
-module _ (w : BoardWorld) (sound : IsSound board_batches most_batches w) (i : ℕ) (l : BoardLink) (a : BoardAttached) (fl : link_of i w.star.links ≡ Some l) (fa : attached i w.sites ≡ Some a) where
+module _ (w : BoardWorld) (sound : soundness.IsSound board_batches most_batches w) (i : ℕ) (l : BoardLink) (a : BoardAttached) (fl : link_of i w.star.links ≡ Some l) (fa : attached i w.sites ≡ Some a) where
   -- what was on its way over each link
   abbrev before : ℕ → ℕ
   before j = link_weight w.star.given (link_of j w.star.links) (attached j w.sites)
@@ -233,7 +233,7 @@ module _ (w : BoardWorld) (sound : IsSound board_batches most_batches w) (i : �
 -- # Deliveries
 
 -- a delivery that answers something, by its outcome
-step_lightens : (w : BoardWorld) (s : IsSound board_batches most_batches w) (e : BoardEvent) (o : Outcome board_batches) → steps.StepOf board_batches w e o → IsDelivery e → (o.reply ≡ Nothing → ⊥) → weight_of o.star o.sites < weight_of w.star w.sites
+step_lightens : (w : BoardWorld) (s : soundness.IsSound board_batches most_batches w) (e : BoardEvent) (o : Outcome board_batches) → steps.StepOf board_batches w e o → IsDelivery e → (o.reply ≡ Nothing → ⊥) → weight_of o.star o.sites < weight_of w.star w.sites
 step_lightens w s e o (steps.Still (steps.Finds event)) delivers some = absurd (some refl)
 step_lightens w s e o (steps.Still (steps.NotJoined fault)) delivers some = absurd delivers
 step_lightens w s e o (steps.Still (steps.NoStray fault)) delivers some = absurd delivers
@@ -260,7 +260,7 @@ step_lightens w s e o (steps.Hands i gone l a d ds fl fa falls none) delivers so
     (omega (arith, all, down-append a.down l.outbox, one_down w s i l a fl fa d (ds ++ drop gone l.outbox), down-append ds (drop gone l.outbox), up-append w.star.given a.up (option_to_list (sent_back board_batches d a.site)))) in omega arith
 
 -- a delivery that answers something leaves less on its way
-pub delivery_lightens : (w : BoardWorld) (event : BoardEvent) → IsSound board_batches most_batches w → IsDelivery event → ((outcome board_batches w event).reply ≡ Nothing → ⊥) → weight (happens board_batches w event) < weight w
+pub delivery_lightens : (w : BoardWorld) (event : BoardEvent) → soundness.IsSound board_batches most_batches w → IsDelivery event → ((outcome board_batches w event).reply ≡ Nothing → ⊥) → weight (happens board_batches w event) < weight w
 unfolding weight
 delivery_lightens w e s delivers some = step_lightens w s e (outcome board_batches w e) (steps.step_of board_batches w e) delivers some
 
@@ -334,13 +334,13 @@ quiet_world w is = (to, from)
 
 -- # What a world promises
 
-pub promises : (w : BoardWorld) → IsWorld w → Promises board_batches w
-promises w is = sound-promises board_batches batch_laws most_batches w is.board.sound (are_linked board_batches batch_laws w is.board.strays)
+pub promises : (w : BoardWorld) → IsWorld w → traces.Promises board_batches w
+promises w is = sound_runs.sound-promises board_batches batch_laws most_batches w is.board.sound (are_linked board_batches batch_laws w is.board.strays)
 
-pub backlogs : (w : BoardWorld) → IsWorld w → BacklogIsShort board_batches w
-backlogs w is = sound-backlog board_batches batch_laws most_batches w is.board.sound
+pub backlogs : (w : BoardWorld) → IsWorld w → traces.BacklogIsShort board_batches w
+backlogs w is = sound_runs.sound-backlog board_batches batch_laws most_batches w is.board.sound
 
-pub tallies_of : (w : BoardWorld) → IsWorld w → Tallies board_batches w
+pub tallies_of : (w : BoardWorld) → IsWorld w → traces.Tallies board_batches w
 tallies_of w is = tallies board_batches w is.board.tallied
 
 pub all_agree : (w : BoardWorld) → IsWorld w → IsQuiet board_batches w → AllAgree w

@@ -11,7 +11,7 @@ use Rattle.jup_world.specs.Happenings.{IsLaneWorld, IsWorld}
 use Rattle.jup_world.specs.Traces.{OrderIsKept}
 use Rattle.jup_world.specs.Boards.{BoardWorld, BoardLink, BoardAttached, BoardEvent}
 use Rattle.jup_world.specs.Drains.{way_event, Settles, MovesNothing, NothingMoves, weight, Repeats, Delivers, Visits, Passes, IsRound}
-use Rattle.jup_world.proofs.Drains.Deliveries.{nothing_quiet, nothing_leaves, delivery_lightens, same_weight}
+use Rattle.jup_world.proofs.Drains.Deliveries as delivering
 use Rattle.jup_world.proofs.Happenings.{found_bounds}
 use Rattle.jup_world.proofs.Lanes.Worlds as lane_worlds
 use Rattle.jup_world.proofs.Lanes.Sites.{messages_map}
@@ -28,9 +28,9 @@ pub settles_one : (w v : LaneWorld) (event : BoardEvent) (reply : Reply BoardEdi
 settles_one w v event reply nothing is delivers step answer test = record {
   delivered = one_delivered w v event delivers step;
   lighter = λ some. subst (λ u. weight u < weight (messages_of w)) (sym step.messages)
-      (delivery_lightens (messages_of w) event is.board.sound delivers (λ none. moved nothing some (test.1 (answer ∙ none))));
-  same_star = λ none. ap (λ u. u.star) step.messages ∙ (nothing_leaves board_batches batch_laws (messages_of w) event (still none)).0;
-  same_sites = λ none. ap (λ u. u.sites) step.messages ∙ (nothing_leaves board_batches batch_laws (messages_of w) event (still none)).1;
+      (delivering.delivery_lightens (messages_of w) event is.board.sound delivers (λ none. moved nothing some (test.1 (answer ∙ none))));
+  same_star = λ none. ap (λ u. u.star) step.messages ∙ (delivering.nothing_leaves board_batches batch_laws (messages_of w) event (still none)).0;
+  same_sites = λ none. ap (λ u. u.sites) step.messages ∙ (delivering.nothing_leaves board_batches batch_laws (messages_of w) event (still none)).1;
 }
   where
     moved : (b : Bool) → IsTrue (not b) → IsTrue b → ⊥
@@ -88,10 +88,10 @@ settles_both true two w v u p q = record {
   where
     no_heavier : (b : Bool) (x y : LaneWorld) → Settles b x y → weight (messages_of y) ≤ weight (messages_of x)
     no_heavier true x y s = let less = s.lighter refl in omega arith
-    no_heavier false x y s = let same = same_weight (messages_of x) (messages_of y) (s.same_star refl) (s.same_sites refl) in omega arith
+    no_heavier false x y s = let same = delivering.same_weight (messages_of x) (messages_of y) (s.same_star refl) (s.same_sites refl) in omega arith
 settles_both false two w v u p q = record {
   delivered = delivered_both w v u p.delivered q.delivered;
-  lighter = λ some. let less = q.lighter some in let same = same_weight (messages_of w) (messages_of v) (p.same_star refl) (p.same_sites refl) in omega arith;
+  lighter = λ some. let less = q.lighter some in let same = delivering.same_weight (messages_of w) (messages_of v) (p.same_star refl) (p.same_sites refl) in omega arith;
   same_star = λ none. q.same_star none ∙ p.same_star refl;
   same_sites = λ none. q.same_sites none ∙ p.same_sites refl;
 }
@@ -149,7 +149,7 @@ way_delivers WayDown i = tt
 pub round_quiet : (w v u : LaneWorld) → IsWorld (messages_of u) → Settles false w v → Settles false v u → NothingMoves WayUp (messages_of w) → NothingMoves WayDown (messages_of v)
     → IsQuiet board_batches (messages_of u)
 round_quiet w v u is one two up down =
-    nothing_quiet board_batches batch_laws most_batches (messages_of u) is.board.sound
+    delivering.nothing_quiet board_batches batch_laws most_batches (messages_of u) is.board.sound
     (λ i a found. (
       moves_none (messages_of u) (messages_of w) WayUp i (sym (two.same_star refl ∙ one.same_star refl)) (sym (two.same_sites refl ∙ one.same_sites refl)) (up i) a found,
       moves_none (messages_of u) (messages_of v) WayDown i (sym (two.same_star refl)) (sym (two.same_sites refl)) (down i) a found,

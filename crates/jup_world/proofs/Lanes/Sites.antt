@@ -4,7 +4,7 @@ use Rattle.std.proofs.Math.ListN.{set}
 use Rattle.std.proofs.lemmas.Bool.{eqb-false}
 use Rattle.jup_world.specs.Prelude.{BoardBatch, board_batches, Down, link_of, BoardStar, fetched, downs_laws, Attached}
 use Rattle.jup_lane.specs.Lanes.{ups, downs, Carries, Codec, IsCodec, bytes_of, bytes_of_all, Way, moved, sent, handed_over, filled_to, messages, IsFilled, IsMovedOn, oldest_length}
-use Rattle.jup_lane.proofs.Lanes.{carried-moved, carried-sent, carried-handed, moved-none, length-moved}
+use Rattle.jup_lane.proofs.Lanes as lanes
 use Rattle.jup_world.specs.Worlds.{IsSiteAt, with_fetched}
 use Rattle.jup_world.specs.Boards.{BoardLink, BoardAttached}
 use Rattle.jup_world.specs.Insides.{lane_of, bare_attached}
@@ -182,11 +182,11 @@ handed-read n w =
 module _ {Message : Type 0} (C : Codec Message) (L : IsCodec C) where
   -- the bytes of the oldest message are read
   pub filled-on : (old new : Way) (o : Option Message) → IsFilled C old new o → IsMovedOn old new
-  filled-on old new None filled = record { count = 0; is = filled.1 ∙ sym (moved-none old) }
+  filled-on old new None filled = record { count = 0; is = filled.1 ∙ sym (lanes.moved-none old) }
   filled-on old new (Some m) filled = record { count = length (bytes_of C m) - length old.read; is = filled.2 }
 
   pub moved-carries : (old new : Way) → IsMovedOn old new → Carries C old → Carries C new
-  moved-carries old new on is = subst (Carries C) (sym on.is) (carried-moved C L on.count old is).1
+  moved-carries old new on is = subst (Carries C) (sym on.is) (lanes.carried-moved C L on.count old is).1
 
   -- there was none
   pub none-read : (old new : Way) → IsFilled C old new None → length new.read ≡ length old.read - oldest_length C (messages C old)
@@ -205,17 +205,17 @@ module _ {Message : Type 0} (C : Codec Message) (L : IsCodec C) where
   pub taken-carries : (old mid new : Way) (m : Message) → IsFilled C old mid (Some m) → new ≡ handed_over (length (bytes_of C m)) mid → messages C mid ≡ m ∷ messages C new → Carries C old → Carries C new
   taken-carries old mid new m filled handed first is =
       let there = moved-carries old mid (filled-on old mid (Some m) filled) is in
-      subst (Carries C) (sym handed) (carried-handed C L mid m (messages C new) there first).1
+      subst (Carries C) (sym handed) (lanes.carried-handed C L mid m (messages C new) there first).1
 
   -- a push
   pub pushed-read : (old new : Way) (count most : ℕ) → count ≡ min most (length old.stream) → new ≡ moved count old → length new.read ≡ length old.read + min most (length old.stream)
   pushed-read old new count most is made =
-      let long = length-moved count old (omega (arith, is)) in
+      let long = lanes.length-moved count old (omega (arith, is)) in
       ap (λ (w : Way). length w.read) made ∙ long ∙ ap (λ k. length old.read + k) is
 
   -- a message that is sent
   pub sent-carries : (old new : Way) (m : Message) → C.IsSpelled m → new ≡ sent (bytes_of C m) old → Carries C old → Carries C new
-  sent-carries old new m spelled made is = subst (Carries C) (sym made) (carried-sent C L old m is spelled).1
+  sent-carries old new m spelled made is = subst (Carries C) (sym made) (lanes.carried-sent C L old m is spelled).1
 
 -- # A down stream that was filled
 
@@ -302,7 +302,7 @@ pub rests_none : (l : BoardLink) (a b : LaneSite) → b ≡ a → RestsDown l a 
 rests_none l a b same = record {
   site = ap (λ (x : LaneSite). x.site) same;
   up = ap (λ (x : LaneSite). x.up) same;
-  down = inl (record { count = 0; is = ap (λ (x : LaneSite). x.down) same ∙ sym (moved-none a.down) });
+  down = inl (record { count = 0; is = ap (λ (x : LaneSite). x.down) same ∙ sym (lanes.moved-none a.down) });
   carry = subst (λ (x : LaneSite). Carries downs a.down → Carries downs x.down) (sym same) (λ is. is);
 }
 
@@ -357,5 +357,5 @@ rests_filled l a mid b filled same =
     rests_down l a mid b (refilled_way l a mid filled) (record {
       site = ap (λ (x : LaneSite). x.site) same;
       up = ap (λ (x : LaneSite). x.up) same;
-      down = record { count = 0; is = ap (λ (x : LaneSite). x.down) same ∙ sym (moved-none mid.down) };
+      down = record { count = 0; is = ap (λ (x : LaneSite). x.down) same ∙ sym (lanes.moved-none mid.down) };
     })

@@ -14,9 +14,9 @@ use Rattle.jup_world.specs.Lanes.{LaneEvent, Plain, PushUp, PushDown, Noted, Lan
 use Rattle.jup_world.specs.Sound.{named_by, own_counts, IsKnown}
 use Rattle.jup_world.specs.Traces.{OrderIsKept}
 use Rattle.jup_world.specs.Insides.{lane_of, bare_attached}
-use Rattle.jup_world.proofs.Worlds.{world_happens, world_spared, kept_site}
+use Rattle.jup_world.proofs.Worlds as world_laws
 use Rattle.jup_site.proofs.Numbers.{either}
-use Rattle.jup_site.proofs.Follows.{Follows, follows-same, follows-chain}
+use Rattle.jup_site.proofs.Follows as following
 use Rattle.jup_world.proofs.Orders as orders
 use Rattle.jup_world.proofs.Sound.Runs.{replies}
 use Rattle.jup_world.proofs.Lanes.Sites.{messages_map}
@@ -135,9 +135,9 @@ pushed_spared w i n = subst (IsSpared (messages_of w)) (sym (after_down w i n)) 
 
 -- what holds of the world of messages holds of it after a step
 pub after_keeps : (w : LaneWorld) (event : LaneEvent) → IsWorld (messages_of w) → IsWorld (messages_after w event)
-after_keeps w (Plain event) is = world_happens (messages_of w) event is
+after_keeps w (Plain event) is = world_laws.world_happens (messages_of w) event is
 after_keeps w (PushUp i n) is = subst IsWorld (sym (after_up w i n)) is
-after_keeps w (PushDown i n) is = world_spared (messages_of w) (messages_after w (PushDown i n)) is (pushed_spared w i n)
+after_keeps w (PushDown i n) is = world_laws.world_spared (messages_of w) (messages_after w (PushDown i n)) is (pushed_spared w i n)
 
 pub step_keeps : (w : LaneWorld) (event : LaneEvent) (v : LaneWorld) → IsLaneWorld w → Steps w event v → IsLaneWorld v
 step_keeps w event v is step = record { world = subst IsWorld (sym step.messages) (after_keeps w event is.world); carry = step.carry }
@@ -200,7 +200,7 @@ spared_carry w v (PushDown i n) all rests = rests.carry
 
 pub spared_keeps : (w v : LaneWorld) (event : LaneEvent) → IsLaneWorld w → IsSparedBy w event v → IsLaneWorld v
 spared_keeps w v event is spared = record {
-  world = world_spared (messages_of w) (messages_of v) is.world (spared_messages w v event spared);
+  world = world_laws.world_spared (messages_of w) (messages_of v) is.world (spared_messages w v event spared);
   carry = spared_carry w v event is.carry spared;
 }
 
@@ -208,7 +208,7 @@ spared_keeps w v event is spared = record {
 
 -- a world and a later one: what the star keeps, that a site that is gone stays gone, and what each site that is attached at both keeps
 pub record Keeps (w v : BoardWorld) : Type 0 where
-  pub star : Follows board_batches batch_laws w.star v.star
+  pub star : following.Follows board_batches batch_laws w.star v.star
   pub gone : (j : ℕ) → attached j w.sites ≡ None → (w.star.given < j → ⊥) → attached j v.sites ≡ None
   pub sites : (j : ℕ) (a b : BoardAttached) → attached j w.sites ≡ Some a → attached j v.sites ≡ Some b → orders.SiteFollows board_batches batch_laws w v j a b
 
@@ -222,7 +222,7 @@ keeps_run events w is = record {
 -- an empty down stream that is filled changes no site
 keeps_fetched : (w : BoardWorld) (i : ℕ) (l : BoardLink) → Keeps w (only_fetched board_batches w i 1 l)
 keeps_fetched w i l = record {
-  star = follows-same board_batches batch_laws w.star (fetched i 1 w.star) (omega arith) refl refl;
+  star = following.follows-same board_batches batch_laws w.star (fetched i 1 w.star) (omega arith) refl refl;
   gone = λ j none old. either (attached j (only_fetched board_batches w i 1 l).sites) (λ o. o ≡ None) (λ is. refl)
       (λ b found. absurd (let was = before j b found in let there = was.1 in cc));
   sites = λ j a b fa fb.
@@ -241,7 +241,7 @@ keeps_fetched w i l = record {
     same_site false x = refl
 
     before : (j : ℕ) (b : BoardAttached) → attached j (only_fetched board_batches w i 1 l).sites ≡ Some b → (a : BoardAttached) × (attached j w.sites ≡ Some a) × (b.site ≡ a.site)
-    before j b found = kept_site (λ x. cond (is_number i x) (with_fetched board_batches 1 l x) x) (λ x. same_site (is_number i x) x) j b w.sites found
+    before j b found = world_laws.kept_site (λ x. cond (is_number i x) (with_fetched board_batches 1 l x) x) (λ x. same_site (is_number i x) x) j b w.sites found
 
 keeps_spared : (w v : BoardWorld) → IsWorld w → IsSpared w v → Keeps w v
 keeps_spared w v is (inl same) = subst (Keeps w) (sym same) (keeps_run [] w is)
@@ -250,7 +250,7 @@ keeps_spared w v is (inr more) = subst (Keeps w) (sym more.5) (keeps_fetched w m
 -- one world after another
 keeps_chain : (u v w : BoardWorld) → IsWorld u → Keeps u v → Keeps v w → Keeps u w
 keeps_chain u v w is f g = record {
-  star = follows-chain board_batches batch_laws u.star v.star w.star is.board.sound.star.star.board_known f.star g.star;
+  star = following.follows-chain board_batches batch_laws u.star v.star w.star is.board.sound.star.star.board_known f.star g.star;
   gone = λ j none old. g.gone j (f.gone j none old) (later j old);
   sites = λ j a c fa fc.
       either (attached j v.sites) (λ o. orders.SiteFollows board_batches batch_laws u w j a c)

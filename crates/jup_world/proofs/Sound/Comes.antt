@@ -6,45 +6,45 @@ use Rattle.jup_world.specs.Worlds.{WorldOf, AttachedOf, EventOf, Outcome, attach
 use Rattle.jup_world.specs.Traces.{made, shown_count, edit_made, was_shown, order_of, joined_at, join_seen}
 use Rattle.jup_world.specs.Events.{Happened}
 use Rattle.jup_world.specs.Sound.{moment_of}
-use Rattle.jup_world.proofs.EventSteps.{Brings, Rises, Strays, StepOf, Still, Enters, EntersStray, Goes, Makes, Asks as SendsPing, Takes as TakesUp, Hands as HandsDown, still_silent, gone_silent, brought_made, brought_join, brought_shown, step_of}
-use Rattle.jup_world.proofs.Sound.Traces.{made-end, shown-end, joined-end}
+use Rattle.jup_world.proofs.EventSteps as steps
+use Rattle.jup_world.proofs.Sound.Traces as trace_ends
 use Rattle.jup_site.proofs.Numbers.{option_map-self, map_kept}
 use Rattle.jup_site.specs.Turns.{brings}
-use Rattle.jup_site.specs.Moments.{Moment, Moves, Edits, Asks, Hands, Joins, Leaves, Fetches, FetchesOwn, Takes, TakesOwn, Runs, Stays, Then, link_taken}
+use Rattle.jup_site.specs.Moments as moments
 
 -- A site with its link, and that site in a later world. It has a link there, came there by moves, and the place of its join stays
 pub record ComesTo (O : Operations) (w v : WorldOf O) (j : ℕ) (l : LinkState O.Op) (a c : AttachedOf O) : Type 0 where
   pub link : LinkState O.Op
   pub linked : link_of j v.star.links ≡ Some link
   pub since : joined_at O j v.trace ≡ joined_at O j w.trace
-  pub run : Runs O j (moment_of O w j l a) (moment_of O v j link c)
+  pub run : moments.Runs O j (moment_of O w j l a) (moment_of O v j link c)
 
 module _ (O : Operations) (w : WorldOf O) (j : ℕ) (low : j ≤ w.star.given) (l : LinkState O.Op) (a : AttachedOf O) (fl : link_of j w.star.links ≡ Some l) (fa : attached j w.sites ≡ Some a) where
   -- a moment after it
-  abbrev at : StarOf O → LinkState O.Op → List O.Edit → ℕ → AttachedOf O → Moment O
+  abbrev at : StarOf O → LinkState O.Op → List O.Edit → ℕ → AttachedOf O → moments.Moment O
   at star k es n c = record { star = star; link = k; mine = made j w.trace ++ es; shown = shown_count j w.trace + n; at = c }
 
   -- the moment before the event
-  abbrev now : Moment O
+  abbrev now : moments.Moment O
   now = moment_of O w j l a
 
   -- if it is still attached, it still has a link, and came there by moves
   abbrev Comes : StarOf O → List O.Edit → ℕ → Option (LinkState O.Op) → Option (AttachedOf O) → Type 0
-  Comes star es n ol oa = (c : AttachedOf O) → oa ≡ Some c → (k : LinkState O.Op) × (ol ≡ Some k) × Runs O j now (at star k es n c)
+  Comes star es n ol oa = (c : AttachedOf O) → oa ≡ Some c → (k : LinkState O.Op) × (ol ≡ Some k) × moments.Runs O j now (at star k es n c)
 
   -- by moves to a moment that says the same
   by : (star : StarOf O) (k : LinkState O.Op) (c : AttachedOf O) (es mine : List O.Edit) (n shown : ℕ) → mine ≡ made j w.trace ++ es → shown ≡ shown_count j w.trace + n
-      → Runs O j now (record { star = star; link = k; mine = mine; shown = shown; at = c }) → Comes star es n (Some k) (Some c)
+      → moments.Runs O j now (record { star = star; link = k; mine = mine; shown = shown; at = c }) → Comes star es n (Some k) (Some c)
   by star k c es mine n shown p q run c' ec =
       let same : record { star = star; link = k; mine = mine; shown = shown; at = c } ≡ at star k es n c' = cc in
-      (k, refl, subst (Runs O j now) same run)
+      (k, refl, subst (moments.Runs O j now) same run)
 
   -- which tells nothing of the trace
-  quiet : (star : StarOf O) (k : LinkState O.Op) (c : AttachedOf O) → Runs O j now (record { star = star; link = k; mine = made j w.trace; shown = shown_count j w.trace; at = c }) → Comes star [] 0 (Some k) (Some c)
+  quiet : (star : StarOf O) (k : LinkState O.Op) (c : AttachedOf O) → moments.Runs O j now (record { star = star; link = k; mine = made j w.trace; shown = shown_count j w.trace; at = c }) → Comes star [] 0 (Some k) (Some c)
   quiet star k c run = by star k c [] (made j w.trace) 0 (shown_count j w.trace) (sym (append-nil (made j w.trace))) (sym (add-zero (shown_count j w.trace))) run
 
-  one : {n : Moment O} → Moves O j now n → Runs O j now n
-  one move = Then _ move Stays
+  one : {n : moments.Moment O} → moments.Moves O j now n → moments.Runs O j now n
+  one move = moments.Then _ move moments.Stays
 
   -- the link and the site of this number, after a change at a number
   here : (i : ℕ) (f h : LinkState O.Op → LinkState O.Op) → ((k : LinkState O.Op) → (f k).site ≡ k.site) → ((k : LinkState O.Op) → (h k).site ≡ k.site)
@@ -77,7 +77,7 @@ module _ (O : Operations) (w : WorldOf O) (j : ℕ) (low : j ≤ w.star.given) (
   -- # Each event
 
   stays : Comes w.star [] 0 (link_of j w.star.links) (attached j w.sites)
-  stays = rw (fl, fa) (quiet w.star l a Stays)
+  stays = rw (fl, fa) (quiet w.star l a moments.Stays)
 
   joined_link : link_of j (joined w.star).links ≡ Some l
   joined_link = found-end_other (λ k. k.site) j w.star.links (opened_link (w.star.given + 1)) (ne_eqb (w.star.given + 1) j (λ e. absurd (omega (arith, low, e)))) ∙ fl
@@ -90,13 +90,13 @@ module _ (O : Operations) (w : WorldOf O) (j : ℕ) (low : j ≤ w.star.given) (
     where
       cases : (b : Bool) → nat_eq i j ≡ b → Comes (left i w.star) [] 0 (link_of j (left i w.star).links) (attached j (without_site i w.sites))
       cases true e = λ c ec. (let gone : attached j (without_site i w.sites) ≡ None = rw (sym (eqb-true i j e)) (found-without (λ c. c.site.number) i w.sites) in absurd (cc))
-      cases false e = rw (found-without_other (λ k. k.site) i j w.star.links e, fl, found-without_other (λ c. c.site.number) i j w.sites e, fa) (quiet (left i w.star) l a (one (Leaves i)))
+      cases false e = rw (found-without_other (λ k. k.site) i j w.star.links e, fl, found-without_other (λ c. c.site.number) i j w.sites e, fa) (quiet (left i w.star) l a (one (moments.Leaves i)))
 
   -- the site alone changes
   alone : (i : ℕ) (g : AttachedOf O → AttachedOf O) → ((c : AttachedOf O) → (g c).site.number ≡ c.site.number) → (es : Bool → List O.Edit) → es false ≡ []
       → (nat_eq i j ≡ true → Comes w.star (es true) 0 (Some l) (Some (g a))) → Comes w.star (es (nat_eq i j)) 0 (link_of j w.star.links) (attached j (at_site i g w.sites))
   alone i g kg es none own = subst (λ ls. Comes w.star (es (nat_eq i j)) 0 (link_of j ls) (attached j (at_site i g w.sites))) (map_kept (λ k. k.site) i w.star.links)
-      (changed w.star i (λ k. k) (λ k. k) g (λ k. refl) (λ k. refl) kg es (λ b. 0) own (λ e. rw none (quiet w.star l a Stays)))
+      (changed w.star i (λ k. k) (λ k. k) g (λ k. refl) (λ k. refl) kg es (λ b. 0) own (λ e. rw none (quiet w.star l a moments.Stays)))
 
   -- the link and the site of the event are those of this number
   module _ (i : ℕ) (k : LinkState O.Op) (fk : link_of i w.star.links ≡ Some k) (e : nat_eq i j ≡ true) where
@@ -113,13 +113,13 @@ module _ (O : Operations) (w : WorldOf O) (j : ℕ) (low : j ≤ w.star.given) (
     not_stray none = (let found : attached j w.sites ≡ None = rw (sym number_is) none in absurd (cc))
 
     -- its oldest message is taken
-    takes_own : (oa : Option (AttachedOf O)) → attached i w.sites ≡ oa → (up : Up O.Op) (ev : EventOf O) → Brings O w i up oa ev → up_fault O w.star k up ≡ None
-        → Comes (taken O i up k w.star) [] 0 (Some (link_taken O up l)) (Some (one_taken O a))
-    takes_own oa fo up ev (Rises b us rising) none =
+    takes_own : (oa : Option (AttachedOf O)) → attached i w.sites ≡ oa → (up : Up O.Op) (ev : EventOf O) → steps.Brings O w i up oa ev → up_fault O w.star k up ≡ None
+        → Comes (taken O i up k w.star) [] 0 (Some (moments.link_taken O up l)) (Some (one_taken O a))
+    takes_own oa fo up ev (steps.Rises b us rising) none =
         let waits : a.up ≡ up ∷ us = (let same = site_is b fo in ap (λ (x : AttachedOf O). x.up) (sym same) ∙ rising) in
         let fits : up_fault O w.star l up ≡ None = rw (sym link_is) none in
-        rw (number_is, link_is) (quiet (taken O j up l w.star) (link_taken O up l) (one_taken O a) (one (TakesOwn up us waits fl fits)))
-    takes_own oa fo up ev Strays none = absurd (not_stray fo)
+        rw (number_is, link_is) (quiet (taken O j up l w.star) (moments.link_taken O up l) (one_taken O a) (one (moments.TakesOwn up us waits fl fits)))
+    takes_own oa fo up ev steps.Strays none = absurd (not_stray fo)
 
     -- it receives the oldest message to it
     hands_own : (b : AttachedOf O) → attached i w.sites ≡ Some b → (gone : ℕ) (d : Down O.Op) (ds : List (Down O.Op)) → b.down ++ k.outbox ≡ d ∷ (ds ++ drop gone k.outbox) → (n : ℕ) → brings d ≡ n
@@ -131,45 +131,45 @@ module _ (O : Operations) (w : WorldOf O) (j : ℕ) (low : j ≤ w.star.given) (
         (append_assoc a.down (take gone l.outbox) (drop gone l.outbox) ∙ ap (λ x. a.down ++ x) (take-append-drop gone l.outbox) ∙ was) in
         rw number_is
         (by (fetched j gone w.star) (link_fetched gone l) (one_handed O d ds a) [] (made j w.trace) n (shown_count j w.trace + brings d) (sym (append-nil (made j w.trace))) (ap (λ m. shown_count j w.trace + m) is)
-        (Then _ (FetchesOwn gone fl) (Then _ (Hands d ds first) Stays)))
+        (moments.Then _ (moments.FetchesOwn gone fl) (moments.Then _ (moments.Hands d ds first) moments.Stays)))
 
   -- an event, by its outcome
-  comes-step : (e : EventOf O) (o : Outcome O) → StepOf O w e o → Comes o.star (edit_made {Operation = O.Op} {Fault = EditFault} j e o.reply) (was_shown {Command = O.Command} {Fault = EditFault} j e o.reply) (link_of j o.star.links) (attached j o.sites)
-  comes-step e o (Still why) = rw ((still_silent O w why).no_edit j, (still_silent O w why).no_shown j) stays
-  comes-step e o (Enters none) = rw (joined_link, joined_site) (quiet (joined w.star) l a (one Joins))
-  comes-step e o (EntersStray none) = rw (joined_link, fa) (quiet (joined w.star) l a (one Joins))
-  comes-step e o (Goes i k oa fk fo why) = rw ((gone_silent O w why).no_edit j, (gone_silent O w why).no_shown j) (goes i)
-  comes-step e o (Makes i command k b op fk fb ok) = alone i (with_edit O op) (λ c. refl) (λ t. cond t (O.t.edit_of op ∷ []) []) refl (λ is.
+  comes-step : (e : EventOf O) (o : Outcome O) → steps.StepOf O w e o → Comes o.star (edit_made {Operation = O.Op} {Fault = EditFault} j e o.reply) (was_shown {Command = O.Command} {Fault = EditFault} j e o.reply) (link_of j o.star.links) (attached j o.sites)
+  comes-step e o (steps.Still why) = rw ((steps.still_silent O w why).no_edit j, (steps.still_silent O w why).no_shown j) stays
+  comes-step e o (steps.Enters none) = rw (joined_link, joined_site) (quiet (joined w.star) l a (one moments.Joins))
+  comes-step e o (steps.EntersStray none) = rw (joined_link, fa) (quiet (joined w.star) l a (one moments.Joins))
+  comes-step e o (steps.Goes i k oa fk fo why) = rw ((steps.gone_silent O w why).no_edit j, (steps.gone_silent O w why).no_shown j) (goes i)
+  comes-step e o (steps.Makes i command k b op fk fb ok) = alone i (with_edit O op) (λ c. refl) (λ t. cond t (O.t.edit_of op ∷ []) []) refl (λ is.
       let answer : edit_answer O command a.site ≡ Ok op = rw (sym (site_is i k fk is b fb)) ok in
-      by w.star l (with_edit O op a) (O.t.edit_of op ∷ []) _ 0 (shown_count j w.trace) refl (sym (add-zero (shown_count j w.trace))) (one (Edits command op answer)))
-  comes-step e o (SendsPing i n k b fk fb) = alone i (pinged O n) (λ c. refl) (λ t. []) refl (λ is. quiet w.star l (pinged O n a) (one (Asks n)))
-  comes-step e o (TakesUp i k oa (UpOp m) fk fo brought none) = rw (brought_made O w brought o.reply j, brought_shown O w brought o.reply j)
+      by w.star l (with_edit O op a) (O.t.edit_of op ∷ []) _ 0 (shown_count j w.trace) refl (sym (add-zero (shown_count j w.trace))) (one (moments.Edits command op answer)))
+  comes-step e o (steps.Asks i n k b fk fb) = alone i (pinged O n) (λ c. refl) (λ t. []) refl (λ is. quiet w.star l (pinged O n a) (one (moments.Asks n)))
+  comes-step e o (steps.Takes i k oa (UpOp m) fk fo brought none) = rw (steps.brought_made O w brought o.reply j, steps.brought_shown O w brought o.reply j)
       (changed o.star i (link_heard O m) (link_sent (operation_at O k.end m)) (one_taken O) (λ k. refl) (λ k. refl) (λ c. refl) (λ t. []) (λ t. 0)
-      (λ is. takes_own i k fk is oa fo (UpOp m) e brought none) (λ apart. quiet o.star (link_sent (operation_at O k.end m) l) a (one (Takes i apart k fk (UpOp m) none))))
-  comes-step e o (TakesUp i k oa (UpAck n) fk fo brought none) = rw (brought_made O w brought o.reply j, brought_shown O w brought o.reply j)
+      (λ is. takes_own i k fk is oa fo (UpOp m) e brought none) (λ apart. quiet o.star (link_sent (operation_at O k.end m) l) a (one (moments.Takes i apart k fk (UpOp m) none))))
+  comes-step e o (steps.Takes i k oa (UpAck n) fk fo brought none) = rw (steps.brought_made O w brought o.reply j, steps.brought_shown O w brought o.reply j)
       (changed o.star i (link_acked n) (λ k. k) (one_taken O) (λ k. refl) (λ k. refl) (λ c. refl) (λ t. []) (λ t. 0)
-      (λ is. takes_own i k fk is oa fo (UpAck n) e brought none) (λ apart. quiet o.star l a (one (Takes i apart k fk (UpAck n) none))))
-  comes-step e o (TakesUp i k oa (UpPing n) fk fo brought none) = rw (brought_made O w brought o.reply j, brought_shown O w brought o.reply j)
+      (λ is. takes_own i k fk is oa fo (UpAck n) e brought none) (λ apart. quiet o.star l a (one (moments.Takes i apart k fk (UpAck n) none))))
+  comes-step e o (steps.Takes i k oa (UpPing n) fk fo brought none) = rw (steps.brought_made O w brought o.reply j, steps.brought_shown O w brought o.reply j)
       (changed o.star i (link_ponged n) (λ k. k) (one_taken O) (λ k. refl) (λ k. refl) (λ c. refl) (λ t. []) (λ t. 0)
-      (λ is. takes_own i k fk is oa fo (UpPing n) e brought none) (λ apart. quiet o.star l a (one (Takes i apart k fk (UpPing n) none))))
-  comes-step e o (HandsDown i gone k b (DownOp m) ds fk fb falls none) =
+      (λ is. takes_own i k fk is oa fo (UpPing n) e brought none) (λ apart. quiet o.star l a (one (moments.Takes i apart k fk (UpPing n) none))))
+  comes-step e o (steps.Hands i gone k b (DownOp m) ds fk fb falls none) =
       changed o.star i (link_fetched gone) (λ k. k) (one_handed O (DownOp m) ds) (λ k. refl) (λ k. refl) (λ c. refl) (λ t. []) (λ t. cond t 1 0)
-      (λ is. hands_own i k fk is b fb gone (DownOp m) ds falls 1 refl) (λ apart. quiet o.star l a (one (Fetches i gone apart)))
-  comes-step e o (HandsDown i gone k b (DownAck n) ds fk fb falls none) =
+      (λ is. hands_own i k fk is b fb gone (DownOp m) ds falls 1 refl) (λ apart. quiet o.star l a (one (moments.Fetches i gone apart)))
+  comes-step e o (steps.Hands i gone k b (DownAck n) ds fk fb falls none) =
       changed o.star i (link_fetched gone) (λ k. k) (one_handed O (DownAck n) ds) (λ k. refl) (λ k. refl) (λ c. refl) (λ t. []) (λ t. 0)
-      (λ is. hands_own i k fk is b fb gone (DownAck n) ds falls 0 refl) (λ apart. quiet o.star l a (one (Fetches i gone apart)))
-  comes-step e o (HandsDown i gone k b (DownPong n) ds fk fb falls none) =
+      (λ is. hands_own i k fk is b fb gone (DownAck n) ds falls 0 refl) (λ apart. quiet o.star l a (one (moments.Fetches i gone apart)))
+  comes-step e o (steps.Hands i gone k b (DownPong n) ds fk fb falls none) =
       changed o.star i (link_fetched gone) (λ k. k) (one_handed O (DownPong n) ds) (λ k. refl) (λ k. refl) (λ c. refl) (λ t. []) (λ t. 0)
-      (λ is. hands_own i k fk is b fb gone (DownPong n) ds falls 0 refl) (λ apart. quiet o.star l a (one (Fetches i gone apart)))
+      (λ is. hands_own i k fk is b fb gone (DownPong n) ds falls 0 refl) (λ apart. quiet o.star l a (one (moments.Fetches i gone apart)))
 
   -- # In the words of the trace
 
   -- the place of its join stays
-  same_join : (n at : ℕ) (e : EventOf O) (o : Outcome O) → StepOf O w e o → join_seen {Command = O.Command} {Operation = O.Op} j n at e o.reply ≡ at
-  same_join n at e o (Still why) = (still_silent O w why).no_join j n at
-  same_join n at e o (Enters none) = rw (ne_eqb (w.star.given + 1) j (λ e. absurd (omega (arith, low, e)))) refl
-  same_join n at e o (Goes i k oa fk fo why) = (gone_silent O w why).no_join j n at
-  same_join n at e o (TakesUp i k oa up fk fo brought none) = brought_join O w brought o.reply j n at
+  same_join : (n at : ℕ) (e : EventOf O) (o : Outcome O) → steps.StepOf O w e o → join_seen {Command = O.Command} {Operation = O.Op} j n at e o.reply ≡ at
+  same_join n at e o (steps.Still why) = (steps.still_silent O w why).no_join j n at
+  same_join n at e o (steps.Enters none) = rw (ne_eqb (w.star.given + 1) j (λ e. absurd (omega (arith, low, e)))) refl
+  same_join n at e o (steps.Goes i k oa fk fo why) = (steps.gone_silent O w why).no_join j n at
+  same_join n at e o (steps.Takes i k oa up fk fo brought none) = steps.brought_join O w brought o.reply j n at
   same_join n at e o step = refl
 
   -- each event
@@ -177,10 +177,10 @@ module _ (O : Operations) (w : WorldOf O) (j : ℕ) (low : j ≤ w.star.given) (
   comes-to e c fc =
       let o : Outcome O = outcome O w e in
       let h : Happened O.Command O.Op O.Edit EditFault = record { event = e; reply = o.reply } in
-      let comes = comes-step e o (step_of O w e) c fc in
+      let comes = comes-step e o (steps.step_of O w e) c fc in
       record {
         link = comes.0;
         linked = comes.1;
-        since = joined-end O j w.trace h ∙ same_join (length (order_of O w.trace)) (joined_at O j w.trace) e o (step_of O w e);
-        run = rw (made-end j w.trace h, shown-end j w.trace h) comes.2;
+        since = trace_ends.joined-end O j w.trace h ∙ same_join (length (order_of O w.trace)) (joined_at O j w.trace) e o (steps.step_of O w e);
+        run = rw (trace_ends.made-end j w.trace h, trace_ends.shown-end j w.trace h) comes.2;
       }

@@ -2,16 +2,16 @@
 use Rattle.std.proofs.Common.{◌≡◌, ℕ, ◌+◌, ◌<◌, ◌≤◌, ◌⊎◌, List, [], ◌∷◌, ◌++◌, drop, length, refl, ap, sym, ◌∙◌, subst, Option, Some, None, arith, inl, inr, false, nat_lt, Result, Ok, Err, lt-ltb, Bool, true, nat_le, leb-true, leb-false}
 use Rattle.std.proofs.lemmas.Bool.{false_from_ne_true, ltb-true}
 use Rattle.jup_world.specs.Prelude.{most_beyond, last_site, most_attached, Msg, Operations, AreLawful, Up, UpOp, UpAck, UpPing, DownOp, DownAck, DownPong, LogFull, Full, SitesSpent, Down, StarFault, downs, LinkState, link_fetched, link_of, fetched, up_fault, StarOf, join_fault, left, deliver_fault, edit_answer, test, EditFault, Asked, Left, Taken, Detached, Nothing}
-use Rattle.jup_world.specs.Traces.{turns, own_edits, made, order_of, joined_at, shown_count, view, AreLinked, Promises, BacklogIsShort}
+use Rattle.jup_world.specs.Traces as traces
 use Rattle.jup_world.specs.Worlds.{attached, WorldOf, EventOf, opened_world, Outcome, outcome, happens, run, only_fetched, ReplyOf, at_number, at_linked, at_attached, join_outcome, edit_outcome, up_outcome, first_up, down_outcome, first_down, unchanged, stray_joins, stray_sends, stray_leaves, at_stray, AttachedOf, with_fetched}
 use Rattle.jup_world.specs.Sound.{moment_of, StandsBeside, IsSound, IsIdle, JoinReplies, edit_reply, UpReplies, DownReplies, SiteReplies, RepliesTo, IsAnswered, StrayReplies, StrayRepliesTo, SitesHold, OnlyFull}
-use Rattle.jup_world.specs.Events.{Down as MoveDown, Ping as SendPing, Join, Leave, Edit as MakeEdit, Up as MoveUp, JoinStray, Stray, LeaveStray}
+use Rattle.jup_world.specs.Events as event
 use Rattle.jup_site.proofs.Pairs.Places.{place-fits}
-use Rattle.jup_site.specs.Moments.{Fetches, FetchesOwn, Runs, Stays, Then}
+use Rattle.jup_site.specs.Moments as moments
 use Rattle.jup_site.proofs.Numbers.{at_one, either}
-use Rattle.jup_site.proofs.Stars.{star-opened, called-fetched}
+use Rattle.jup_site.proofs.Stars as stars
 use Rattle.jup_site.proofs.Beside.{fits, runs-beside}
-use Rattle.jup_site.proofs.Views.{beside-view, beside-answers, beside-heard, beside-equal, beside-whole, beside-backlog}
+use Rattle.jup_site.proofs.Views as views
 use Rattle.jup_world.proofs.Sound.Comes.{ComesTo}
 use Rattle.jup_world.proofs.Sound.Steps.{sound-step}
 use Rattle.jup_world.proofs.Sound.Traces.{beside}
@@ -36,7 +36,7 @@ module _ (O : Operations) (L : AreLawful O) where
   sound-opened most limit board distinct small room counted layout = record {
     order_is = refl;
     keeps = refl;
-    star = record { star = star-opened O L most limit board distinct small room counted layout; no_entry = λ i above. refl };
+    star = record { star = stars.star-opened O L most limit board distinct small room counted layout; no_entry = λ i above. refl };
     sites = λ i a none. absurd (cc);
     no_edit = λ i above. refl;
     no_shown = λ i above. refl;
@@ -45,18 +45,18 @@ module _ (O : Operations) (L : AreLawful O) where
   -- what a sound world says of a site
   module _ (most : ℕ) (w : WorldOf O) (s : IsSound O most w) (i : ℕ) (l : LinkState O.Op) (a : AttachedOf O) (h : StandsBeside O most w i l a) where
     -- it shows the meaning of what has reached it and of what it made
-    pub shows_view : O.t.content a.site.board ≡ O.t.meaning (O.t.content w.opening) (view O i w.trace)
-    shows_view = rw s.order_is (beside-view O L most (O.t.content w.opening) (joined_at O i w.trace) i (moment_of O w i l a) h)
+    pub shows_view : O.t.content a.site.board ≡ O.t.meaning (O.t.content w.opening) (traces.view O i w.trace)
+    shows_view = rw s.order_is (views.beside-view O L most (O.t.content w.opening) (traces.joined_at O i w.trace) i (moment_of O w i l a) h)
 
     -- if no message is on its way between them it is level with the star, and the order has all its edits
     pub level : IsIdle O l a → a.site.board ≡ w.star.board
-    level q = beside-equal O L most (O.t.content w.opening) (joined_at O i w.trace) i (moment_of O w i l a) h q.0 q.1 q.2
+    level q = views.beside-equal O L most (O.t.content w.opening) (traces.joined_at O i w.trace) i (moment_of O w i l a) h q.0 q.1 q.2
 
-    pub all_taken : IsIdle O l a → own_edits (turns i (order_of O w.trace)) ≡ made i w.trace
-    all_taken q = rw s.order_is (beside-whole O L most (O.t.content w.opening) (joined_at O i w.trace) i (moment_of O w i l a) h q.0)
+    pub all_taken : IsIdle O l a → traces.own_edits (traces.turns i (traces.order_of O w.trace)) ≡ traces.made i w.trace
+    all_taken q = rw s.order_is (views.beside-whole O L most (O.t.content w.opening) (traces.joined_at O i w.trace) i (moment_of O w i l a) h q.0)
 
   -- what a sound world promises
-  pub sound-promises : (most : ℕ) (w : WorldOf O) → IsSound O most w → AreLinked O w → Promises O w
+  pub sound-promises : (most : ℕ) (w : WorldOf O) → IsSound O most w → traces.AreLinked O w → traces.Promises O w
   sound-promises most w s links = record {
     order = sym s.order_is;
     keeps = s.keeps;
@@ -69,13 +69,13 @@ module _ (O : Operations) (L : AreLawful O) where
   }
 
   -- its backlogs are short
-  pub sound-backlog : (most : ℕ) (w : WorldOf O) → IsSound O most w → BacklogIsShort O w
+  pub sound-backlog : (most : ℕ) (w : WorldOf O) → IsSound O most w → traces.BacklogIsShort O w
   sound-backlog most w s = record {
     backlog = λ i a fa. (s.sites i a fa).beside.counts.sent;
     bounded = λ i a fa. (s.sites i a fa).beside.stands.pair.backlog;
     quiet = λ none i a fa. (let at = s.sites i a fa in
         let q = none i at.link a at.linked fa in
-        beside-backlog O L most (O.t.content w.opening) (joined_at O i w.trace) i (moment_of O w i at.link a) at.beside q.0 q.1 q.2);
+        views.beside-backlog O L most (O.t.content w.opening) (traces.joined_at O i w.trace) i (moment_of O w i at.link a) at.beside q.0 q.1 q.2);
   }
 
 -- A world of which messages were fetched, and no more, is sound: so a world is sound after a failed allocation.
@@ -84,17 +84,17 @@ module _ (O : Operations) (L : AreLawful O) (most : ℕ) (w : WorldOf O) (s : Is
   -- a site that has the number had it before, and came there by one move
   abbrev From : ℕ → Option (LinkState O.Op) → Option (AttachedOf O) → Type 0
   From j ol oa = (c : AttachedOf O) → oa ≡ Some c → (b : AttachedOf O) × (fb : attached j w.sites ≡ Some b) × (k : LinkState O.Op) × (ol ≡ Some k)
-      × Runs O j (moment_of O w j (s.sites j b fb).link b) (moment_of O (only_fetched O w i n l) j k c)
+      × moments.Runs O j (moment_of O w j (s.sites j b fb).link b) (moment_of O (only_fetched O w i n l) j k c)
 
   own : From i (Some (link_fetched n l)) (Some (with_fetched O n l a))
   own c is =
       let site : c ≡ with_fetched O n l a = cc in
       let link : (s.sites i a fa).link ≡ l = (let there = (s.sites i a fa).linked in cc) in
-      (a, fa, link_fetched n l, refl, rw (site, link) (Then _ (FetchesOwn n fl) Stays))
+      (a, fa, link_fetched n l, refl, rw (site, link) (moments.Then _ (moments.FetchesOwn n fl) moments.Stays))
 
   each : (j : ℕ) → From j (link_of j (fetched i n w.star).links) (attached j (only_fetched O w i n l).sites)
   each = at_one (λ k. k.site) (λ b. b.site.number) From i (link_fetched n) (with_fetched O n l) (λ k. refl) (λ b. refl) w.star.links w.sites l (Some a) fl fa own
-      (λ j apart c is. (c, is, (s.sites j c is).link, (s.sites j c is).linked, Then _ (Fetches i n apart) Stays))
+      (λ j apart c is. (c, is, (s.sites j c is).link, (s.sites j c is).linked, moments.Then _ (moments.Fetches i n apart) moments.Stays))
 
   pub fetched-from : (j : ℕ) (c : AttachedOf O) → attached j (only_fetched O w i n l).sites ≡ Some c
       → (b : AttachedOf O) × (fb : attached j w.sites ≡ Some b) × ComesTo O w (only_fetched O w i n l) j (s.sites j b fb).link b c
@@ -105,13 +105,13 @@ module _ (O : Operations) (L : AreLawful O) (most : ℕ) (w : WorldOf O) (s : Is
   sound-fetched = record {
     order_is = s.order_is;
     keeps = s.keeps;
-    star = (called-fetched O L most (O.t.content w.opening) w.star s.star i n).called;
+    star = (stars.called-fetched O L most (O.t.content w.opening) w.star s.star i n).called;
     sites = λ j c fc. (let from = fetched-from j c fc in
         let was = s.sites j from.0 from.1 in
         record {
           link = from.2.link;
           linked = from.2.linked;
-          beside = runs-beside O L most (O.t.content w.opening) (joined_at O j w.trace) j (moment_of O w j was.link from.0) (moment_of O (only_fetched O w i n l) j from.2.link c) from.2.run was.beside;
+          beside = runs-beside O L most (O.t.content w.opening) (traces.joined_at O j w.trace) j (moment_of O w j was.link from.0) (moment_of O (only_fetched O w i n l) j from.2.link c) from.2.run was.beside;
         });
     no_edit = s.no_edit;
     no_shown = s.no_shown;
@@ -123,16 +123,16 @@ module _ (O : Operations) (L : AreLawful O) (most : ℕ) (w : WorldOf O) (s : Is
   -- an honest operation is taken, or the order is full
   pub take_cases : (m : Msg O.Op) (us : List (Up O.Op)) → a.up ≡ UpOp m ∷ us
       → ((up_fault O w.star l (UpOp m) ≡ None) × (length w.star.order < w.star.limit)) ⊎ ((up_fault O w.star l (UpOp m) ≡ Some LogFull) × (w.star.limit ≤ length w.star.order))
-  take_cases = beside-answers O L most (O.t.content w.opening) (joined_at O i w.trace) i (moment_of O w i l a) (beside O L most w s i l a fl fa)
+  take_cases = views.beside-answers O L most (O.t.content w.opening) (traces.joined_at O i w.trace) i (moment_of O w i l a) (beside O L most w s i l a fl fa)
 
   -- the oldest message of an attached site's up stream is taken if it is an acknowledgement
   pub ack_fits : (n : ℕ) (us : List (Up O.Op)) → a.up ≡ UpAck n ∷ us → up_fault O w.star l (UpAck n) ≡ None
-  ack_fits = beside-heard O L most (O.t.content w.opening) (joined_at O i w.trace) i (moment_of O w i l a) (beside O L most w s i l a fl fa)
+  ack_fits = views.beside-heard O L most (O.t.content w.opening) (traces.joined_at O i w.trace) i (moment_of O w i l a) (beside O L most w s i l a fl fa)
 
   -- the oldest message on an attached site's way down is delivered
   pub fall_fits : (d : Down O.Op) (gone : ℕ) (falling : List (Down O.Op)) → downs (a.down ++ l.outbox) ≡ downs (d ∷ (falling ++ drop gone l.outbox)) → deliver_fault O d a.site ≡ None
   fall_fits = (let h = beside O L most w s i l a fl fa in
-      place-fits O L most (O.t.content w.opening) w.star (made i w.trace) i (joined_at O i w.trace) (shown_count i w.trace) l a h.stands (fits O L most (O.t.content w.opening) (joined_at O i w.trace) i (moment_of O w i l a) h))
+      place-fits O L most (O.t.content w.opening) w.star (traces.made i w.trace) i (traces.joined_at O i w.trace) (traces.shown_count i w.trace) l a h.stands (fits O L most (O.t.content w.opening) (traces.joined_at O i w.trace) i (moment_of O w i l a) h))
 
 -- In a sound world each event answers what it should, and nothing is withheld.
 
@@ -219,12 +219,12 @@ module _ (O : Operations) (L : AreLawful O) where
 
   -- each event answers what it should
   pub replies : (most : ℕ) (w : WorldOf O) → IsSound O most w → (e : EventOf O) → RepliesTo O w e (outcome O w e).reply
-  replies most w s Join = join_replies w
-  replies most w s (Leave i) = replies_at w i _ (λ r l a. r ≡ Left) (λ l a fl fa. refl)
-  replies most w s (MakeEdit i command) = replies_at w i _ (λ r l a. r ≡ edit_reply O (edit_answer O command a.site)) (λ l a fl fa. edit_replies w i (edit_answer O command a.site))
-  replies most w s (MoveUp i) = replies_at w i _ (λ r l a. UpReplies O w.star a.up r) (λ l a fl fa. up_replies most w s i l a fl fa a.up refl)
-  replies most w s (MoveDown i) = replies_at w i _ (λ r l a. DownReplies O (a.down ++ l.outbox) r) (λ l a fl fa. down_replies most w s i l a fl fa a.down l.outbox refl refl)
-  replies most w s (SendPing i k) = replies_at w i _ (λ r l a. r ≡ Asked) (λ l a fl fa. refl)
+  replies most w s event.Join = join_replies w
+  replies most w s (event.Leave i) = replies_at w i _ (λ r l a. r ≡ Left) (λ l a fl fa. refl)
+  replies most w s (event.Edit i command) = replies_at w i _ (λ r l a. r ≡ edit_reply O (edit_answer O command a.site)) (λ l a fl fa. edit_replies w i (edit_answer O command a.site))
+  replies most w s (event.Up i) = replies_at w i _ (λ r l a. UpReplies O w.star a.up r) (λ l a fl fa. up_replies most w s i l a fl fa a.up refl)
+  replies most w s (event.Down i) = replies_at w i _ (λ r l a. DownReplies O (a.down ++ l.outbox) r) (λ l a fl fa. down_replies most w s i l a fl fa a.down l.outbox refl refl)
+  replies most w s (event.Ping i k) = replies_at w i _ (λ r l a. r ≡ Asked) (λ l a fl fa. refl)
   replies most w s e = tt
 
 -- What a sound world says of each of its sites, however many strangers there are, and what each event of a stranger answers.
@@ -254,9 +254,9 @@ module _ (O : Operations) (L : AreLawful O) where
   pub only-full : (most : ℕ) (w : WorldOf O) → IsSound O most w → OnlyFull O w
   only-full most w s i a fault fa is =
       let at = s.sites i a fa in
-      cases a.up ((replies O L most w s (MoveUp i)).present at.link a at.linked fa)
+      cases a.up ((replies O L most w s (event.Up i)).present at.link a at.linked fa)
     where
-      cases : (us : List (Up O.Op)) → UpReplies O w.star us (outcome O w (MoveUp i)).reply → (fault ≡ LogFull) × (w.star.limit ≤ length w.star.order)
+      cases : (us : List (Up O.Op)) → UpReplies O w.star us (outcome O w (event.Up i)).reply → (fault ≡ LogFull) × (w.star.limit ≤ length w.star.order)
       cases [] r = absurd cc
       cases (UpOp m ∷ us) r = room (nat_le w.star.limit (length w.star.order)) refl
         where
@@ -268,7 +268,7 @@ module _ (O : Operations) (L : AreLawful O) where
 
   module _ (most : ℕ) (w : WorldOf O) (s : IsSound O most w) where
     -- a stranger joins
-    join_strays : StrayRepliesTo O w JoinStray (outcome O w JoinStray)
+    join_strays : StrayRepliesTo O w event.JoinStray (outcome O w event.JoinStray)
     join_strays =
         let faults = join_faults O L w.star in (
           record {
@@ -314,7 +314,7 @@ module _ (O : Operations) (L : AreLawful O) where
 
     -- each event of a stranger
     pub stray-replies : (e : EventOf O) → StrayRepliesTo O w e (outcome O w e)
-    stray-replies JoinStray = join_strays
-    stray-replies (Stray i up) = stray_replies i (λ l. stray_sends O w i l up (up_fault O w.star l up)) (λ l o. IsAnswered O w.star i l up o.reply o.star) (λ l. sends_kept i up l (up_fault O w.star l up)) (sent_one i up)
-    stray-replies (LeaveStray i) = stray_replies i (λ l. stray_leaves O w i) (λ l o. o ≡ record { reply = Left; star = left i w.star; sites = w.sites }) (λ l. refl) (λ l fl. refl)
+    stray-replies event.JoinStray = join_strays
+    stray-replies (event.Stray i up) = stray_replies i (λ l. stray_sends O w i l up (up_fault O w.star l up)) (λ l o. IsAnswered O w.star i l up o.reply o.star) (λ l. sends_kept i up l (up_fault O w.star l up)) (sent_one i up)
+    stray-replies (event.LeaveStray i) = stray_replies i (λ l. stray_leaves O w i) (λ l o. o ≡ record { reply = Left; star = left i w.star; sites = w.sites }) (λ l. refl) (λ l fl. refl)
     stray-replies e = tt

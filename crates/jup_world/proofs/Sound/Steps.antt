@@ -6,12 +6,12 @@ use Rattle.jup_world.specs.Traces.{made, order_of, joined_at, shown_count, edit_
 use Rattle.jup_world.specs.Sound.{moment_of, IsAttached, IsSound}
 use Rattle.jup_world.specs.Events.{Happened, Join, Stray}
 use Rattle.jup_world.proofs.EventSteps.{Rises, Strays, StepOf, Still, Enters, EntersStray, Goes, Makes, Asks, Takes, Hands, still_silent, gone_silent, brought_made, brought_shown, step_of, handed_number}
-use Rattle.jup_world.proofs.Sound.Traces.{made-end, shown-end, order-end, joined-end, order_told}
+use Rattle.jup_world.proofs.Sound.Traces as trace_ends
 use Rattle.jup_world.proofs.Sound.Comes.{comes-to}
 use Rattle.jup_site.proofs.Numbers.{either, option_map-self}
-use Rattle.jup_site.proofs.Stars.{Grows, called-still, called-joined, called-left, called-fetched, called-taken}
+use Rattle.jup_site.proofs.Stars as stars
 use Rattle.jup_site.proofs.Beside.{runs-beside, beside-new}
-use Rattle.jup_site.specs.Moments.{IsBeside, next_number, newcomer}
+use Rattle.jup_site.specs.Moments as moments
 
 -- # A site that joins
 
@@ -59,16 +59,16 @@ module _ (O : Operations) (w : WorldOf O) (j : ℕ) where
 module _ (O : Operations) (L : AreLawful O) (most : ℕ) (w : WorldOf O) (s : IsSound O most w) where
   -- # The star
 
-  star-step : (e : EventOf O) (o : Outcome O) → StepOf O w e o → Grows O L most (O.t.content w.opening) w.star o.star
-  star-step e o (Enters none) = called-joined O L most (O.t.content w.opening) w.star s.star
-  star-step e o (EntersStray none) = called-joined O L most (O.t.content w.opening) w.star s.star
-  star-step e o (Goes i l oa fl fa why) = called-left O L most (O.t.content w.opening) w.star s.star i
-  star-step e o (Takes i l oa up fl fa brought none) = called-taken O L most (O.t.content w.opening) w.star s.star i l fl up none
-  star-step e o (Hands i gone l a d ds fl fa falls none) = called-fetched O L most (O.t.content w.opening) w.star s.star i gone
-  star-step e o step = called-still O L most (O.t.content w.opening) w.star s.star
+  star-step : (e : EventOf O) (o : Outcome O) → StepOf O w e o → stars.Grows O L most (O.t.content w.opening) w.star o.star
+  star-step e o (Enters none) = stars.called-joined O L most (O.t.content w.opening) w.star s.star
+  star-step e o (EntersStray none) = stars.called-joined O L most (O.t.content w.opening) w.star s.star
+  star-step e o (Goes i l oa fl fa why) = stars.called-left O L most (O.t.content w.opening) w.star s.star i
+  star-step e o (Takes i l oa up fl fa brought none) = stars.called-taken O L most (O.t.content w.opening) w.star s.star i l fl up none
+  star-step e o (Hands i gone l a d ds fl fa falls none) = stars.called-fetched O L most (O.t.content w.opening) w.star s.star i gone
+  star-step e o step = stars.called-still O L most (O.t.content w.opening) w.star s.star
 
   -- each event leaves a sound star, which goes on from the one before
-  pub star-grows : (e : EventOf O) → Grows O L most (O.t.content w.opening) w.star (outcome O w e).star
+  pub star-grows : (e : EventOf O) → stars.Grows O L most (O.t.content w.opening) w.star (outcome O w e).star
   star-grows e = star-step e (outcome O w e) (step_of O w e)
 
   -- it keeps its order
@@ -81,7 +81,7 @@ module _ (O : Operations) (L : AreLawful O) (most : ℕ) (w : WorldOf O) (s : Is
   -- # The order that the trace gives
 
   same_order : (e : EventOf O) (o : Outcome O) → entry_taken O w.trace (order_of O w.trace) e o.reply ≡ [] → order_of O (with_outcome O w e o).trace ≡ w.star.order
-  same_order e o none = order-end O w.trace (record { event = e; reply = o.reply }) ∙ ap (λ es. order_of O w.trace ++ es) none ∙ append-nil (order_of O w.trace) ∙ s.order_is
+  same_order e o none = trace_ends.order-end O w.trace (record { event = e; reply = o.reply }) ∙ ap (λ es. order_of O w.trace ++ es) none ∙ append-nil (order_of O w.trace) ∙ s.order_is
 
   order-step : (e : EventOf O) (o : Outcome O) → StepOf O w e o → order_of O (with_outcome O w e o).trace ≡ o.star.order
   order-step e o (Still why) = same_order e o ((still_silent O w why).no_entry w.trace (order_of O w.trace))
@@ -90,8 +90,8 @@ module _ (O : Operations) (L : AreLawful O) (most : ℕ) (w : WorldOf O) (s : Is
   order-step e o (Goes i l oa fl fa why) = same_order e o ((gone_silent O w why).no_entry w.trace (order_of O w.trace))
   order-step e o (Makes i command l a op fl fa ok) = same_order e o refl
   order-step e o (Asks i k l a fl fa) = same_order e o refl
-  order-step e o (Takes i l oa (UpOp m) fl fa (Rises a us rising) none) = order_told O L most w s i a fa m us rising
-  order-step e o (Takes i l oa (UpOp m) fl fa Strays none) = order-end O w.trace (record { event = Stray i (UpOp m); reply = Taken (length w.star.order) }) ∙ ap (λ es. es ++ entry O i m ∷ []) s.order_is
+  order-step e o (Takes i l oa (UpOp m) fl fa (Rises a us rising) none) = trace_ends.order_told O L most w s i a fa m us rising
+  order-step e o (Takes i l oa (UpOp m) fl fa Strays none) = trace_ends.order-end O w.trace (record { event = Stray i (UpOp m); reply = Taken (length w.star.order) }) ∙ ap (λ es. es ++ entry O i m ∷ []) s.order_is
   order-step e o (Takes i l oa (UpAck n) fl fa (Rises a us rising) none) = same_order e o refl
   order-step e o (Takes i l oa (UpAck n) fl fa Strays none) = same_order e o refl
   order-step e o (Takes i l oa (UpPing n) fl fa (Rises a us rising) none) = same_order e o refl
@@ -126,12 +126,12 @@ module _ (O : Operations) (L : AreLawful O) (most : ℕ) (w : WorldOf O) (s : Is
     none_made : (e : EventOf O) → made j (happens O w e).trace ≡ []
     none_made e =
         let h : Happened O.Command O.Op O.Edit EditFault = record { event = e; reply = (outcome O w e).reply } in
-        made-end j w.trace h ∙ ap (λ es. made j w.trace ++ es) (no_edit-step e (outcome O w e) (step_of O w e)) ∙ append-nil (made j w.trace) ∙ s.no_edit j above
+        trace_ends.made-end j w.trace h ∙ ap (λ es. made j w.trace ++ es) (no_edit-step e (outcome O w e) (step_of O w e)) ∙ append-nil (made j w.trace) ∙ s.no_edit j above
 
     none_shown : (e : EventOf O) → shown_count j (happens O w e).trace ≡ 0
     none_shown e =
         let h : Happened O.Command O.Op O.Edit EditFault = record { event = e; reply = (outcome O w e).reply } in
-        shown-end j w.trace h ∙ ap (λ n. shown_count j w.trace + n) (no_shown-step e (outcome O w e) (step_of O w e)) ∙ add-zero (shown_count j w.trace) ∙ s.no_shown j above
+        trace_ends.shown-end j w.trace h ∙ ap (λ n. shown_count j w.trace + n) (no_shown-step e (outcome O w e) (step_of O w e)) ∙ add-zero (shown_count j w.trace) ∙ s.no_shown j above
 
   -- # Sites
 
@@ -148,22 +148,22 @@ module _ (O : Operations) (L : AreLawful O) (most : ℕ) (w : WorldOf O) (s : Is
 
   -- one that joins: its moment is that of its join
   abbrev next : ℕ
-  next = next_number O w.star
+  next = moments.next_number O w.star
 
   pub record Joins (v : WorldOf O) (j : ℕ) (c : AttachedOf O) : Type 0 where
     pub number : j ≡ next
     pub since : joined_at O j v.trace ≡ length w.star.order
     pub linked : link_of j v.star.links ≡ Some (opened_link j)
-    pub moment : moment_of O v j (opened_link j) c ≡ newcomer O w.star
+    pub moment : moment_of O v j (opened_link j) c ≡ moments.newcomer O w.star
 
   joins-next : Joins (with_outcome O w Join (join_outcome O w None)) next (new_site O w next)
   joins-next =
       let h : Happened O.Command O.Op O.Edit EditFault = record { event = Join; reply = Joined next } in
-      let mine : made next (w.trace ++ h ∷ []) ≡ [] = made-end next w.trace h ∙ append-nil (made next w.trace) ∙ s.no_edit next (omega arith) in
-      let shown : shown_count next (w.trace ++ h ∷ []) ≡ 0 = shown-end next w.trace h ∙ add-zero (shown_count next w.trace) ∙ s.no_shown next (omega arith) in
+      let mine : made next (w.trace ++ h ∷ []) ≡ [] = trace_ends.made-end next w.trace h ∙ append-nil (made next w.trace) ∙ s.no_edit next (omega arith) in
+      let shown : shown_count next (w.trace ++ h ∷ []) ≡ 0 = trace_ends.shown-end next w.trace h ∙ add-zero (shown_count next w.trace) ∙ s.no_shown next (omega arith) in
       record {
         number = refl;
-        since = joined-end O next w.trace h ∙ ap (λ b. cond b (length (order_of O w.trace)) (joined_at O next w.trace)) (eq-eqb next next refl) ∙ ap (λ (os : List (Entry O.Edit)). length os) s.order_is;
+        since = trace_ends.joined-end O next w.trace h ∙ ap (λ b. cond b (length (order_of O w.trace)) (joined_at O next w.trace)) (eq-eqb next next refl) ∙ ap (λ (os : List (Entry O.Edit)). length os) s.order_is;
         linked = found-end (λ k. k.site) next w.star.links (opened_link next) (s.star.star.no_link next (omega arith)) (eq-eqb next next refl);
         moment = rw (mine, shown) refl;
       }
@@ -177,8 +177,8 @@ module _ (O : Operations) (L : AreLawful O) (most : ℕ) (w : WorldOf O) (s : Is
     | inr here ↦ joins-step e (outcome O w e) j c here.0 (let found = here.1 in cc) here.2 here.3
   ]
 
-  joined-beside : (v : WorldOf O) (j : ℕ) (c : AttachedOf O) → Joins v j c → IsBeside O most (O.t.content w.opening) (joined_at O j v.trace) j (moment_of O v j (opened_link j) c)
-  joined-beside v j c to = subst (λ m. IsBeside O most (O.t.content w.opening) (joined_at O j v.trace) j m) (sym to.moment) (rw (to.since, to.number) (beside-new O L most (O.t.content w.opening) w.star s.star))
+  joined-beside : (v : WorldOf O) (j : ℕ) (c : AttachedOf O) → Joins v j c → moments.IsBeside O most (O.t.content w.opening) (joined_at O j v.trace) j (moment_of O v j (opened_link j) c)
+  joined-beside v j c to = subst (λ m. moments.IsBeside O most (O.t.content w.opening) (joined_at O j v.trace) j m) (sym to.moment) (rw (to.since, to.number) (beside-new O L most (O.t.content w.opening) w.star s.star))
 
   sites-step : (e : EventOf O) (j : ℕ) (c : AttachedOf O) → attached j (outcome O w e).sites ≡ Some c → IsAttached O most (happens O w e) j c
   sites-step e j c there = either (attached j w.sites) (λ o. IsAttached O most (happens O w e) j c)

@@ -4,7 +4,7 @@ use Rattle.jup_world.specs.Prelude.{Operations, DownOp, DownAck, DownPong, UpOp,
 use Rattle.jup_world.specs.Worlds.{AttachedOf, with_edit, one_taken, one_handed, pinged, with_fetched, WorldOf, EventOf, attached, at_site, without_site, Outcome, new_site, only_fetched, outcome, happens, ReplyOf, is_number, unchanged}
 use Rattle.jup_world.specs.Traces.{made, edit_made, gives, numbers_given, CountsItsEdits, IsTallied, Tallies}
 use Rattle.jup_world.specs.Events.{Join, Edit as MakeEdit, Down as MoveDown, Ping as SendPing, JoinStray, Happened}
-use Rattle.jup_world.proofs.EventSteps.{StepOf, Still, Enters, EntersStray, Goes, Makes, Asks, Takes, Hands, step_of, WhyStill, Finds, NotJoined, NoStray, NotMade, WhyGone, Leaves, StrayLeaves, IsDropped, still_silent, gone_silent, brought_made}
+use Rattle.jup_world.proofs.EventSteps as steps
 use Rattle.jup_world.proofs.Sound.Traces.{made-end}
 
 -- Each event keeps the tallies of the trace.
@@ -97,29 +97,29 @@ module _ (O : Operations) where
   one_dropped w e r i none = each-some (CountsItsEdits O w.trace) (CountsItsEdits O (noted w e r)) (λ a. not (is_number i a)) (λ a. quiet_site w e r a a (none a.site.number) refl refl) w.sites
 
   -- what changes nothing, or lets a link go, gives no number
-  still_gives : (w : WorldOf O) {e : EventOf O} {r : ReplyOf O} → WhyStill O w e r → gives r ≡ 0
-  still_gives w (Finds e) = refl
-  still_gives w (NotJoined fault) = refl
-  still_gives w (NoStray fault) = refl
-  still_gives w (NotMade i command fault) = refl
+  still_gives : (w : WorldOf O) {e : EventOf O} {r : ReplyOf O} → steps.WhyStill O w e r → gives r ≡ 0
+  still_gives w (steps.Finds e) = refl
+  still_gives w (steps.NotJoined fault) = refl
+  still_gives w (steps.NoStray fault) = refl
+  still_gives w (steps.NotMade i command fault) = refl
 
-  gone_gives : (w : WorldOf O) {i : ℕ} {l : LinkState O.Op} {oa : Option (AttachedOf O)} {e : EventOf O} {r : ReplyOf O} → WhyGone O w i l oa e r → gives r ≡ 0
-  gone_gives w (Leaves a) = refl
-  gone_gives w StrayLeaves = refl
-  gone_gives w (IsDropped up fault brought f) = refl
+  gone_gives : (w : WorldOf O) {i : ℕ} {l : LinkState O.Op} {oa : Option (AttachedOf O)} {e : EventOf O} {r : ReplyOf O} → steps.WhyGone O w i l oa e r → gives r ≡ 0
+  gone_gives w (steps.Leaves a) = refl
+  gone_gives w steps.StrayLeaves = refl
+  gone_gives w (steps.IsDropped up fault brought f) = refl
 
   -- an event, by its outcome
-  step_tally : (w : WorldOf O) → AllByRecursion (CountsItsEdits O w.trace) w.sites → made (w.star.given + 1) w.trace ≡ [] → (e : EventOf O) (o : Outcome O) → StepOf O w e o → IsTallyOf w e o
-  step_tally w all new e o (Still why) = same_tally w e _ (still_silent O w why).no_edit (still_gives w why) all
-  step_tally w all new e o (Enters none) = (
+  step_tally : (w : WorldOf O) → AllByRecursion (CountsItsEdits O w.trace) w.sites → made (w.star.given + 1) w.trace ≡ [] → (e : EventOf O) (o : Outcome O) → steps.StepOf O w e o → IsTallyOf w e o
+  step_tally w all new e o (steps.Still why) = same_tally w e _ (steps.still_silent O w why).no_edit (still_gives w why) all
+  step_tally w all new e o (steps.Enters none) = (
     refl,
     each-more (CountsItsEdits O w.trace) (CountsItsEdits O (noted w Join (Joined (w.star.given + 1)))) (new_site O w (w.star.given + 1))
         (λ a. quiet_site w Join (Joined (w.star.given + 1)) a a refl refl refl) w.sites all
         (quiet_site w Join (Joined (w.star.given + 1)) (new_site O w (w.star.given + 1)) (new_site O w (w.star.given + 1)) refl refl refl (sym (ap (λ es. length es) new))),
   )
-  step_tally w all new e o (EntersStray none) = (refl, each-implied (CountsItsEdits O w.trace) (CountsItsEdits O (noted w JoinStray (Joined (w.star.given + 1)))) (λ a. quiet_site w JoinStray (Joined (w.star.given + 1)) a a refl refl refl) w.sites all)
-  step_tally w all new e o (Goes i l oa fl fa why) = (omega (arith, gone_gives w why), one_dropped w e _ i (gone_silent O w why).no_edit all)
-  step_tally w all new e o (Makes i command l a op fl fa ok) = (
+  step_tally w all new e o (steps.EntersStray none) = (refl, each-implied (CountsItsEdits O w.trace) (CountsItsEdits O (noted w JoinStray (Joined (w.star.given + 1)))) (λ a. quiet_site w JoinStray (Joined (w.star.given + 1)) a a refl refl refl) w.sites all)
+  step_tally w all new e o (steps.Goes i l oa fl fa why) = (omega (arith, gone_gives w why), one_dropped w e _ i (steps.gone_silent O w why).no_edit all)
+  step_tally w all new e o (steps.Makes i command l a op fl fa ok) = (
     omega arith,
     each-mapped (CountsItsEdits O w.trace) (CountsItsEdits O (noted w (MakeEdit i command) (Made (O.t.edit_of op))))
         (λ b. if is_number i b then with_edit O op b else b) (λ b. chosen b (is_number i b) refl) w.sites all,
@@ -128,17 +128,17 @@ module _ (O : Operations) where
       chosen : (b : AttachedOf O) (is : Bool) → is_number i b ≡ is → CountsItsEdits O w.trace b → CountsItsEdits O (noted w (MakeEdit i command) (Made (O.t.edit_of op))) (if is then with_edit O op b else b)
       chosen b true is = edited_site w i command op b is
       chosen b false is = other_site w i command op b is
-  step_tally w all new e o (Asks i k l a fl fa) = (omega arith, one_changed w (SendPing i k) _ i (pinged O k) (λ j. refl) (λ b. refl) (λ b. refl) all)
-  step_tally w all new e o (Takes i l oa (UpOp m) fl fa brought none) = (omega arith, one_changed w e _ i (one_taken O) (brought_made O w brought _) (λ b. refl) (λ b. refl) all)
-  step_tally w all new e o (Takes i l oa (UpAck n) fl fa brought none) = (omega arith, one_changed w e _ i (one_taken O) (brought_made O w brought _) (λ b. refl) (λ b. refl) all)
-  step_tally w all new e o (Takes i l oa (UpPing k) fl fa brought none) = (omega arith, one_changed w e _ i (one_taken O) (brought_made O w brought _) (λ b. refl) (λ b. refl) all)
-  step_tally w all new e o (Hands i gone l a (DownOp m) ds fl fa falls none) = (omega arith, one_changed w (MoveDown i) _ i (one_handed O (DownOp m) ds) (λ j. refl) (λ b. refl) (λ b. refl) all)
-  step_tally w all new e o (Hands i gone l a (DownAck n) ds fl fa falls none) = (omega arith, one_changed w (MoveDown i) _ i (one_handed O (DownAck n) ds) (λ j. refl) (λ b. refl) (λ b. refl) all)
-  step_tally w all new e o (Hands i gone l a (DownPong k) ds fl fa falls none) = (omega arith, one_changed w (MoveDown i) _ i (one_handed O (DownPong k) ds) (λ j. refl) (λ b. refl) (λ b. refl) all)
+  step_tally w all new e o (steps.Asks i k l a fl fa) = (omega arith, one_changed w (SendPing i k) _ i (pinged O k) (λ j. refl) (λ b. refl) (λ b. refl) all)
+  step_tally w all new e o (steps.Takes i l oa (UpOp m) fl fa brought none) = (omega arith, one_changed w e _ i (one_taken O) (steps.brought_made O w brought _) (λ b. refl) (λ b. refl) all)
+  step_tally w all new e o (steps.Takes i l oa (UpAck n) fl fa brought none) = (omega arith, one_changed w e _ i (one_taken O) (steps.brought_made O w brought _) (λ b. refl) (λ b. refl) all)
+  step_tally w all new e o (steps.Takes i l oa (UpPing k) fl fa brought none) = (omega arith, one_changed w e _ i (one_taken O) (steps.brought_made O w brought _) (λ b. refl) (λ b. refl) all)
+  step_tally w all new e o (steps.Hands i gone l a (DownOp m) ds fl fa falls none) = (omega arith, one_changed w (MoveDown i) _ i (one_handed O (DownOp m) ds) (λ j. refl) (λ b. refl) (λ b. refl) all)
+  step_tally w all new e o (steps.Hands i gone l a (DownAck n) ds fl fa falls none) = (omega arith, one_changed w (MoveDown i) _ i (one_handed O (DownAck n) ds) (λ j. refl) (λ b. refl) (λ b. refl) all)
+  step_tally w all new e o (steps.Hands i gone l a (DownPong k) ds fl fa falls none) = (omega arith, one_changed w (MoveDown i) _ i (one_handed O (DownPong k) ds) (λ j. refl) (λ b. refl) (λ b. refl) all)
 
   pub tallied-happens : (w : WorldOf O) → IsTallied O w → made (w.star.given + 1) w.trace ≡ [] → (e : EventOf O) → IsTallied O (happens O w e)
   tallied-happens w is none e =
-      let tally = step_tally w is.made none e (outcome O w e) (step_of O w e) in
+      let tally = step_tally w is.made none e (outcome O w e) (steps.step_of O w e) in
       record {
         given = tally.0 ∙ ap (λ n. n + gives (outcome O w e).reply) is.given ∙ sym (given-end w.trace (record { event = e; reply = (outcome O w e).reply }));
         made = tally.1;

@@ -1,12 +1,12 @@
 use Rattle.std.proofs.Common.{subst}
 use Rattle.jup_world.specs.Happenings.{IsLaneWorld}
-use Rattle.jup_world.proofs.Drains.Rounds.{order_drained, still_drained}
+use Rattle.jup_world.proofs.Drains.Rounds as rounds
 use Rattle.jup_world.proofs.world.World.drain.Goals as goal
 
 pub returns-clause-order : goal.returns-clause-order
 returns-clause-order c =
-    order_drained c.args.self.now c.settle.new.self c.settle.result (subst IsLaneWorld c.self.view_is c.self.invariant) c.settle.ensures.delivered c.settle.ensures.err
+    rounds.order_drained c.args.self.now c.settle.new.self c.settle.result (subst IsLaneWorld c.self.view_is c.self.invariant) c.settle.ensures.delivered c.settle.ensures.err
 
 pub returns-clause-quiet : goal.returns-clause-quiet
 returns-clause-quiet c =
-    still_drained c.args.self.now c.settle.new.self c.settle.result (subst IsLaneWorld c.self.view_is c.self.invariant) c.settle.ensures.delivered c.settle.ensures.quiet
+    rounds.still_drained c.args.self.now c.settle.new.self c.settle.result (subst IsLaneWorld c.self.view_is c.self.invariant) c.settle.ensures.delivered c.settle.ensures.quiet

@@ -6,7 +6,7 @@ use Rattle.jup_window.specs.Boards as boards
 use Rattle.jup_window.specs.Entries.{EachWidget}
 use Rattle.jup_star.specs.declared.calls.StarReply.TheVariants as reply
 use Rattle.jup_star.specs.Stars.{opened_star, BoardStar, star_open_fault, IsShort}
-use Rattle.jup_star.proofs.Stars.{short_bare, distinct_bare}
+use Rattle.jup_star.proofs.Stars as stars
 use Rattle.jup_app.specs.Runs.{Made, made, makes, Step, Edited, Took, Got, calls_of, site_of, made_at, IsSite, calls_at, edits_of, IsPlayed, edited, all_delivered, BoardDown, Handles, Fetches, CatchesUp, told_to, IsFresh, joined_call, HasMet, HasJoinedAll, HasTaken, end_of, all_tallies, all_calls}
 use Rattle.jup_star.specs.declared.faults.OpenFault.TheVariants.{BadLimit, BadSite}
 
@@ -305,7 +305,7 @@ open_fits b limit fine = go (nat_le 1 limit && nat_le limit highest_limit) (boar
     go false y e f = absurd cc
 
 pub opens : (b : boards.Windows) (limit : ℕ) (star : BoardStar) → EachWidget IsShort b → boards.HasDistinctNames b → ◌≡◌ {A = Option OpenFault} None (star_open_fault (boards.bare b) limit) → star ≡ opened_star (boards.bare b) limit → IsOpening star.board
-opens b limit star short distinct fine is = subst (λ (s : BoardStar). IsOpening s.board) (sym is) (record { distinct = distinct_bare b distinct; unsigned = open_fits (boards.bare b) limit fine; short = short_bare b short })
+opens b limit star short distinct fine is = subst (λ (s : BoardStar). IsOpening s.board) (sym is) (record { distinct = stars.distinct_bare b distinct; unsigned = open_fits (boards.bare b) limit fine; short = stars.short_bare b short })
 
 -- What the first pass of a run knows, put together.
 

@@ -4,7 +4,7 @@ use Rattle.jup_app.specs.Prelude.{highest_limit, Command, Commands, Windows, boa
 use Rattle.jup_star.specs.declared.calls.StarReply.TheVariants as reply
 use Rattle.jup_star.specs.Stars.{BoardStar, reply_of, star_after, opened_star}
 use Rattle.jup_app.specs.Runs.{EditAnswer, Made, made, Step, calls_of, edits_of, singles, IsPlayed, makes, link_with, all_tallies, all_calls, end_of, IsJob, Ran, AllRan, IsSite, site_of, joins, assembled, HasSeen, joined_call, HasJoinedAll, HasMet, IsSame, HasTaken, AreJobs, no_site, IsDrained, AreNumbered, empty_fetches, IsRun, IsRunOf}
-use Rattle.jup_app.proofs.Calls.{total, edits_of-append}
+use Rattle.jup_app.proofs.Calls as calls
 use Rattle.jup_app.proofs.Stars as stars
 use Rattle.jup_app.proofs.WholeRuns.{HasJoined, has_joined, Known, Whole, Parts, parts, tracks, both_logs, assembled_run, legal_append, star_through-append}
 use Rattle.jup_app.proofs.Passes.{begins_trans}
@@ -93,7 +93,7 @@ pub each_player : (P : Tally → Type 0) (ps : List Player) → ((k : ℕ) (d : 
 each_player P [] all = tt
 each_player P (p ∷ ps) all = (all 0 p (omega arith), each_player P ps (λ k d within. all (suc k) d (omega arith)))
 
-pub calls_total : (ps : List Player) → ((k : ℕ) (d : Player) → k < length ps → (get_or ps k d).caller.calls ≡ length (view_of (get_or ps k d).caller.pass).made) → all_calls ps ≡ total (map tally_of ps)
+pub calls_total : (ps : List Player) → ((k : ℕ) (d : Player) → k < length ps → (get_or ps k d).caller.calls ≡ length (view_of (get_or ps k d).caller.pass).made) → all_calls ps ≡ calls.total (map tally_of ps)
 calls_total [] all = refl
 calls_total (p ∷ ps) all = let one = all 0 p (omega arith) in omega (arith, one, calls_total ps (λ k d within. all (suc k) d (omega arith)))
 
@@ -354,7 +354,7 @@ module _ (board : Windows) (limit : ℕ) (opened : IsOpening board) (low : limit
 
   edits_are : (k : ℕ) → edits_of (both_logs logs facts.drained.drained.logs (suc k)) ≡ edits_of (all_logs.0 k)
   unfolding logs
-  edits_are k = edits_of-append (all_logs.0 (suc k - 1)) (facts.drained.drained.logs (suc k)) ∙ ap (λ es. edits_of (all_logs.0 (suc k - 1)) ++ es) (facts.drained.drained.no_edits (suc k)) ∙ append-nil (edits_of (all_logs.0 (suc k - 1))) ∙ ap (λ j. edits_of (all_logs.0 j)) (down_up k)
+  edits_are k = calls.edits_of-append (all_logs.0 (suc k - 1)) (facts.drained.drained.logs (suc k)) ∙ ap (λ es. edits_of (all_logs.0 (suc k - 1)) ++ es) (facts.drained.drained.no_edits (suc k)) ∙ append-nil (edits_of (all_logs.0 (suc k - 1))) ∙ ap (λ j. edits_of (all_logs.0 j)) (down_up k)
 
   quiet_there : (i : ℕ) → IsSite (length js) i → stars.IsIdle (star_through (opened_star board limit) h) i
   unfolding known

@@ -5,7 +5,7 @@ use Rattle.jup_star.specs.declared.messages.Down.TheVariants as down
 use Rattle.jup_star.specs.declared.calls.StarReply.TheVariants as reply
 use Rattle.jup_star.specs.Stars.{BoardLink, reply_of, star_after}
 use Rattle.jup_world.specs.Events as event
-use Rattle.jup_world.specs.Worlds.{at_site, at_linked, at_attached, edit_outcome, first_up, up_outcome, first_down, down_outcome}
+use Rattle.jup_world.specs.Worlds as worlds
 use Rattle.jup_world.proofs.Sound.Traces.{standing_of}
 use Rattle.jup_world.proofs.Worlds.{reached_sound}
 use Rattle.jup_app.specs.Runs.{BoardUp, BoardDown, EditAnswer, Made, made, Step, Edited, Took, Got, calls_of, edits_of, IsPlayed, IsAccepted, edited, answer_to, edit_by, answer_by, delivered, all_delivered, AcceptsAll, site_of, made_at, deliveries, through_call, past_call, with_log, left_over, assembled, IsSite, edit_at, edits_at}
@@ -89,24 +89,24 @@ eqb_flip i j ne = elim (eqb i j) as (λ b. eqb i j ≡ b → b ≡ false) [ true
 number_of : BoardAttached → ℕ
 number_of a = a.site.number
 
-changed_here : (i : ℕ) (f : BoardAttached → BoardAttached) → ((a : BoardAttached) → (f a).site.number ≡ a.site.number) → (sites : List BoardAttached) (l : BoardAttached) → attached i sites ≡ Some l → attached i (at_site i f sites) ≡ Some (f l)
+changed_here : (i : ℕ) (f : BoardAttached → BoardAttached) → ((a : BoardAttached) → (f a).site.number ≡ a.site.number) → (sites : List BoardAttached) (l : BoardAttached) → attached i sites ≡ Some l → attached i (worlds.at_site i f sites) ≡ Some (f l)
 changed_here i f same sites l is = found-map (λ (a : BoardAttached). a.site.number) i f (λ a. a) same (λ a. refl) sites ∙ ap (λ o. option_map f o) is
 
 map_same : (o : Option BoardAttached) → option_map (λ a. a) o ≡ o
 map_same None = refl
 map_same (Some a) = refl
 
-changed_other : (i j : ℕ) (f : BoardAttached → BoardAttached) → ((a : BoardAttached) → (f a).site.number ≡ a.site.number) → (sites : List BoardAttached) → eqb j i ≡ false → attached j (at_site i f sites) ≡ attached j sites
+changed_other : (i j : ℕ) (f : BoardAttached → BoardAttached) → ((a : BoardAttached) → (f a).site.number ≡ a.site.number) → (sites : List BoardAttached) → eqb j i ≡ false → attached j (worlds.at_site i f sites) ≡ attached j sites
 changed_other i j f same sites ne = found-map_other (λ (a : BoardAttached). a.site.number) i j f (λ a. a) same (λ a. refl) sites (eqb_flip i j ne) ∙ map_same (attached j sites)
 
 -- one edit
 pub edit_leads : (w : BoardWorld) (i : ℕ) (c : Commands) (l : BoardAttached) (k : BoardLink) → attached i w.sites ≡ Some l → link_of i w.star.links ≡ Some k → Leads w (event.Edit i c ∷ []) i w.star (edited c l) ((c, answer_to c l) ∷ [])
-edit_leads w i c l k is link = leads_one {o = edit_outcome board_batches w i (edit_answer board_batches c l.site)}
-    (ap (λ (o : Option BoardLink). at_linked board_batches w i (λ l a. edit_outcome board_batches w i (edit_answer board_batches c a.site)) o) link
-    ∙ ap (λ (o : Option BoardAttached). at_attached board_batches w k (λ l a. edit_outcome board_batches w i (edit_answer board_batches c a.site)) o) is)
+edit_leads w i c l k is link = leads_one {o = worlds.edit_outcome board_batches w i (edit_answer board_batches c l.site)}
+    (ap (λ (o : Option BoardLink). worlds.at_linked board_batches w i (λ l a. worlds.edit_outcome board_batches w i (edit_answer board_batches c a.site)) o) link
+    ∙ ap (λ (o : Option BoardAttached). worlds.at_attached board_batches w k (λ l a. worlds.edit_outcome board_batches w i (edit_answer board_batches c a.site)) o) is)
     (go (edit_answer board_batches c l.site))
   where
-    go : (r : Result BoardBatch EditFault) → Does w (event.Edit i c) (edit_outcome board_batches w i r) i w.star (edit_by r l) ((c, answer_by r) ∷ [])
+    go : (r : Result BoardBatch EditFault) → Does w (event.Edit i c) (worlds.edit_outcome board_batches w i r) i w.star (edit_by r l) ((c, answer_by r) ∷ [])
     go (Ok op) = record {
       star = refl;
       here = changed_here i (with_edit board_batches op) (λ a. refl) w.sites l is;
@@ -127,11 +127,11 @@ pub up_leads : (w : BoardWorld) (i : ℕ) (u : BoardUp) (p : Option ℕ) (l : Bo
     → Leads w (event.Up i ∷ []) i (star_after (Take i u) w.star) (one_taken board_batches l) []
 up_leads w i u p l is oldest replied =
     let t = stars.take_gives w.star i u p replied in
-    leads_one {o = up_outcome board_batches w i t.link u None}
-    (ap (λ (o : Option BoardLink). at_linked board_batches w i (λ k a. first_up board_batches w i k a.up) o) t.is
-    ∙ ap (λ (o : Option BoardAttached). at_attached board_batches w t.link (λ k a. first_up board_batches w i k a.up) o) is
-    ∙ ap (λ (us : List BoardUp). first_up board_batches w i t.link us) oldest
-    ∙ ap (λ (f : Option StarFault). up_outcome board_batches w i t.link u f) t.fine)
+    leads_one {o = worlds.up_outcome board_batches w i t.link u None}
+    (ap (λ (o : Option BoardLink). worlds.at_linked board_batches w i (λ k a. worlds.first_up board_batches w i k a.up) o) t.is
+    ∙ ap (λ (o : Option BoardAttached). worlds.at_attached board_batches w t.link (λ k a. worlds.first_up board_batches w i k a.up) o) is
+    ∙ ap (λ (us : List BoardUp). worlds.first_up board_batches w i t.link us) oldest
+    ∙ ap (λ (f : Option StarFault). worlds.up_outcome board_batches w i t.link u f) t.fine)
     (record {
       star = sym t.after;
       here = changed_here i (one_taken board_batches) (λ a. refl) w.sites l is;
@@ -149,12 +149,12 @@ handed_number (down.Pong k) ds a = refl
 pub down_leads : (w : BoardWorld) (i : ℕ) (d : BoardDown) (rest : List BoardDown) (l : BoardAttached) (k : BoardLink) → attached i w.sites ≡ Some l → link_of i w.star.links ≡ Some k → l.down ≡ [] → k.outbox ≡ d ∷ rest → IsAccepted d l
     → Leads w (event.Down i ∷ []) i (fetched i 1 w.star) (delivered d l) []
 down_leads w i d rest l k is link idle waits fine =
-    leads_one {o = down_outcome board_batches w i 1 d [] None}
-    (ap (λ (o : Option BoardLink). at_linked board_batches w i (λ k a. first_down board_batches w i a a.down k.outbox) o) link
-    ∙ ap (λ (o : Option BoardAttached). at_attached board_batches w k (λ k a. first_down board_batches w i a a.down k.outbox) o) is
-    ∙ ap (λ (ds : List BoardDown). first_down board_batches w i l ds k.outbox) idle
-    ∙ ap (λ (ds : List BoardDown). first_down board_batches w i l [] ds) waits
-    ∙ ap (λ f. down_outcome board_batches w i 1 d [] f) fine)
+    leads_one {o = worlds.down_outcome board_batches w i 1 d [] None}
+    (ap (λ (o : Option BoardLink). worlds.at_linked board_batches w i (λ k a. worlds.first_down board_batches w i a a.down k.outbox) o) link
+    ∙ ap (λ (o : Option BoardAttached). worlds.at_attached board_batches w k (λ k a. worlds.first_down board_batches w i a a.down k.outbox) o) is
+    ∙ ap (λ (ds : List BoardDown). worlds.first_down board_batches w i l ds k.outbox) idle
+    ∙ ap (λ (ds : List BoardDown). worlds.first_down board_batches w i l [] ds) waits
+    ∙ ap (λ f. worlds.down_outcome board_batches w i 1 d [] f) fine)
     (record {
       star = refl;
       here = changed_here i (one_handed board_batches d []) (handed_number d []) w.sites l is ∙ ap (λ (ds : List BoardDown). Some (one_handed board_batches d ds l)) (sym idle);

@@ -5,7 +5,7 @@ use Rattle.jup_star.specs.declared.calls.StarReply.TheVariants as reply
 use Rattle.jup_star.specs.declared.messages.Up.TheVariants as up
 use Rattle.jup_star.specs.Stars.{reply_of, star_after, BoardLink, take_fault, after_join, after_take, after_fetch, after_leave}
 use Rattle.jup_world.specs.Traces as traces
-use Rattle.jup_world.specs.Boards.{IsBoardWorld, order_of}
+use Rattle.jup_world.specs.Boards as boards
 use Rattle.jup_world.specs.Worlds as worlds
 use Rattle.jup_world.specs.Sound.{IsSound}
 use Rattle.jup_world.specs.Events as event
@@ -428,7 +428,7 @@ module _ (board : Windows) (limit n : ℕ) (scripts : List (List Command)) (star
   reached : IsReached (assembled_world board limit n is.logs is.later)
   reached = simulate.reached_more (opened_world board_batches board limit) (joins n ++ assembled n is.logs is.later) (opened_reached board limit fit low)
 
-  kept : IsBoardWorld (assembled_world board limit n is.logs is.later)
+  kept : boards.IsBoardWorld (assembled_world board limit n is.logs is.later)
   kept = reached_sound (assembled_world board limit n is.logs is.later) reached
 
   sound : IsSound board_batches most_batches (assembled_world board limit n is.logs is.later)
@@ -471,7 +471,7 @@ module _ (board : Windows) (limit n : ℕ) (scripts : List (List Command)) (star
       let link : link_of (suc (i - 1)) star.links ≡ Some l = ap (λ k. link_of k star.links) at ∙ ap (λ (t : BoardStar). link_of i t.links) (sym is.star_is) ∙ fl in
       (ap (λ (x : BoardAttached). x.up) same, ap (λ (x : BoardAttached). x.down) same, is.quiet (i - 1) l within link)
 
-  order_is : order_of (assembled_world board limit n is.logs is.later).trace ≡ star.order
+  order_is : boards.order_of (assembled_world board limit n is.logs is.later).trace ≡ star.order
   order_is = sym promised.order ∙ ap (λ (t : BoardStar). t.order) is.star_is
 
   opening_is : (es : List BoardEvent) (w : BoardWorld) → (run board_batches w es).opening ≡ w.opening
@@ -486,7 +486,7 @@ module _ (board : Windows) (limit n : ℕ) (scripts : List (List Command)) (star
         equal = λ k d within. let inside : k < n = omega (arith, within, is.count) in
             promised.equal quiet (suc k) (link_with (get_or ends k d).site []) (is.sites k d inside) ∙ ap (λ (t : BoardStar). t.board) is.star_is;
         content = ap (λ (t : BoardStar). content t.board) (sym is.star_is) ∙ promised.star_content
-            ∙ ap (λ (b : Windows). meaning (content b) (edits (turns 0 (order_of w.trace)))) (opening_is (joins n ++ assembled n is.logs is.later) (opened_world board_batches board limit))
+            ∙ ap (λ (b : Windows). meaning (content b) (edits (turns 0 (boards.order_of w.trace)))) (opening_is (joins n ++ assembled n is.logs is.later) (opened_world board_batches board limit))
             ∙ ap (λ o. meaning (content board) (edits (turns 0 o))) order_is;
         own = λ k d within. let inside : k < n = omega (arith, within, is.count) in
             ap (λ o. own_edits (turns (suc k) o)) (sym order_is)

@@ -6,6 +6,7 @@ use Rattle.jup_star.specs.Stars.{opened_link, new_star, joined, joining, link_of
 use Rattle.jup_site.specs.Sound.{IsSoundStar}
 use Rattle.jup_site.proofs.Follows as following
 use Rattle.jup_site.proofs.PastBoards.{order_symmetric}
+use Rattle.jup_site.proofs.Copies.{sites-agree}
 use Rattle.jup_honest.specs.Sites as sites
 use Rattle.jup_honest.proofs.Steps as steps
 use Rattle.jup_honest.proofs.Runs as runs
@@ -215,7 +216,7 @@ runs-order y z one two both =
     let b = subst (λ w. (h : runs.Stands w (sites.now z)) × Remembers w (past_stars (sites.opening y) (sites.calls y)) (sites.now z) h) (sym both.board)
     (subst (λ o. (h : runs.Stands z.board (sites.now z)) × Remembers z.board (past_stars o (sites.calls y)) (sites.now z) h) (sym opens)
     (subst (λ es. (h : runs.Stands z.board (sites.now z)) × Remembers z.board (past_stars (sites.opening z) es) (sites.now z) h) (sym both.calls) (now-remembers z two))) in
-    past.sites-agree honest.board_batches honest.batch_laws order_symmetric most_batches (honest.content y.board) (sites.now y).since (sites.now z).since (sites.now y).number (sites.now z).number differ (past_stars (sites.opening y) (sites.calls y))
+    sites-agree honest.board_batches honest.batch_laws order_symmetric most_batches (honest.content y.board) (sites.now y).since (sites.now z).since (sites.now y).number (sites.now z).number differ (past_stars (sites.opening y) (sites.calls y))
     (runs.moment (sites.now y) a.0.link a.0.up) (runs.moment (sites.now z) b.0.link b.0.up) star a.0.beside b.0.beside a.1 b.1
   where
     opens : sites.opening y ≡ sites.opening z

@@ -7,7 +7,7 @@ use Rattle.jup_batch.specs.Boards as batch
 use Rattle.jup_star.specs.Stars.{take_fault, BoardLink, after_join, after_take, after_fetch, after_leave, reply_of, star_after, join_result, fetched, taken, BoardStar}
 use Rattle.jup_star.specs.Sites.{site_open_fault}
 use Rattle.jup_site.proofs.Stars.{inserts, next}
-use Rattle.jup_site.proofs.Items.{batch_none, layout_none}
+use Rattle.jup_site.proofs.Items as items
 use Rattle.jup_honest.specs.Sites as sites
 use Rattle.jup_site.specs.Prelude as beside
 use Rattle.jup_honest.proofs.Steps as steps
@@ -106,7 +106,7 @@ module _ (board : honest.Windows) (limit : ℕ) (s : BoardStar) (h : steps.Calle
   -- an edit of a link
   taken-named : (j : ℕ) (l : BoardLink) → beside.link_of j s.links ≡ Some l → (u : honest.Up honest.BoardBatch) → beside.up_fault honest.board_batches s l u ≡ None → IsNamed limit (taken honest.board_batches j u l s)
   taken-named j l fl (honest.UpOp m) none = record {
-    named = λ i above. batch_none i (beside.operation_at honest.board_batches l.end m) s.board (λ name put is. other i above (sym is ∙ own name put)) (n.named i above);
+    named = λ i above. items.batch_none i (beside.operation_at honest.board_batches l.end m) s.board (λ name put is. other i above (sym is ∙ own name put)) (n.named i above);
     limit_is = n.limit_is;
   }
     where
@@ -181,6 +181,6 @@ run-opens y is low =
     let parts = steps.legal-parts (sites.opening y) y.before _ is.legal in
     let gives = join_gives s y.answer parts.1.0 in
     let n : IsNamed y.limit s = through-named y.board y.limit y.before (sites.opening y) (steps.called-opened y.keeps y.board y.limit is.opens is.limited)
-    (record { named = λ i above. layout_none i y.board (omega (arith, above)) is.opens.unsigned; limit_is = refl }) in
+    (record { named = λ i above. items.layout_none i y.board (omega (arith, above)) is.opens.unsigned; limit_is = refl }) in
     subst (λ (j : Joined). site_open_fault j.site j.limit j.board ≡ None) (sym gives.0)
     (opens_with s (not_refused s y.answer parts.1.0) (omega (arith, low, n.limit_is)) (let high = is.limited in omega (arith, high, n.limit_is)) (n.named (s.given + 1) (omega arith)))

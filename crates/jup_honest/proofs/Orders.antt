@@ -6,7 +6,7 @@ use Rattle.jup_star.specs.Stars.{link_of, join_fault, take_fault, up_fault, most
 use Rattle.jup_honest.specs.Sites as sites
 use Rattle.jup_honest.proofs.Steps.{legal-parts}
 use Rattle.jup_honest.proofs.Runs as runs
-use Rattle.jup_honest.proofs.Relies.{next-taken, star-through}
+use Rattle.jup_honest.proofs.Relies as relies
 use Rattle.jup_site.specs.Moments as moments
 use Rattle.jup_site.proofs.Beside.{IsLeave, moves-remain}
 use Rattle.jup_site.proofs.Later.{runs-later}
@@ -46,7 +46,7 @@ shorter y ms is = record {
 pub since-legal : (y : sites.SiteRun) (ms : List sites.Step) → sites.IsHonest (sites.longer y ms) → honest.IsLegal (sites.now y).star (sites.history ms)
 since-legal y ms is =
     let parts = legal-parts (sites.start y).star (sites.history y.steps) (sites.history ms) (subst (λ es. honest.IsLegal (sites.start y).star es) (history-append y.steps ms) (runs.run-legal (sites.longer y ms) is)) in
-    subst (λ s. honest.IsLegal s (sites.history ms)) (sym (star-through y.steps (sites.start y))) parts.1
+    subst (λ s. honest.IsLegal s (sites.history ms)) (sym (relies.star-through y.steps (sites.start y))) parts.1
 
 -- from one moment of a run to a later one
 pub run-order : (y : sites.SiteRun) (ms : List sites.Step) → sites.IsHonest (sites.longer y ms) → sites.KeepsOrder (sites.now y) (sites.now (sites.longer y ms))
@@ -78,7 +78,7 @@ module _ (board : honest.Windows) (a : sites.Connection) (h : runs.Stands board 
   unfolding reply_of star_after
   own u us e =
       subst (λ o. (honest.Taken (take_result a.star u (take_fault honest.board_batches a.star u o)) ≡ honest.Taken (Err honest.LogFull)) ⊎ Has (after_take a.number u a.star o (take_fault honest.board_batches a.star u o))) (sym has)
-      (at u (up_fault honest.board_batches a.star h.link u) refl waits (subst (λ o. sites.IsTakenUnlessFull a.star u (honest.Taken (take_result a.star u (take_fault honest.board_batches a.star u o)))) has (next-taken board a h l fl u us e)))
+      (at u (up_fault honest.board_batches a.star h.link u) refl waits (subst (λ o. sites.IsTakenUnlessFull a.star u (honest.Taken (take_result a.star u (take_fault honest.board_batches a.star u o)))) has (relies.next-taken board a h l fl u us e)))
     where
       has : link_of a.number a.star.links ≡ Some h.link
       has = runs.linked board a h l fl

@@ -1,7 +1,5 @@
 -- An honest site of a hub is a site beside a star that anyone calls.
 use Rattle.std.proofs.Common.{◌≡◌, ℕ, ◌+◌, ◌≤◌, ◌⊎◌, Bool, true, false, cond, List, [], ◌∷◌, ◌++◌, take, drop, length, nat_eq, refl, ap, sym, ◌∙◌, subst, Option, Some, None, option_to_list, Ok, arith, append-nil, append_assoc, eqb-true, length-append, drop_of_length-le, le_refl, inl, inr}
-use Rattle.std.proofs.lemmas.List.{drop-append-le}
-use Rattle.std.proofs.Math.Seq.{drop-append_seam}
 use Rattle.jup_honest.specs.Prelude as honest
 use Rattle.jup_star.specs.Stars.{take_fault, BoardLink, join_result, after_join, after_take, after_fetch, after_leave, fetch_result, reply_of, star_after}
 use Rattle.jup_star.specs.Sites as star_sites
@@ -22,7 +20,7 @@ begins-le xs ys b = omega (arith, ap length b.1, length-append ys b.0)
 
 -- what is left once a beginning is gone
 pub left_of : {A : Type 0} → (xs ys rest : List A) → xs ≡ ys ++ rest → drop (length ys) xs ≡ rest
-left_of xs ys rest e = ap (drop (length ys)) e ∙ drop-append_seam ys rest
+left_of xs ys rest e = ap (drop (length ys)) e ∙ Rattle.std.proofs.Math.Seq.drop-append_seam ys rest
 
 -- of a list that is drained nothing
 pub none_left : {A : Type 0} → (xs ys : List A) → ys ≡ xs → drop (length ys) xs ≡ []
@@ -30,7 +28,7 @@ none_left xs ys e = ap (λ zs. drop (length zs) xs) e ∙ drop_of_length-le xs (
 
 -- and more at the end
 pub left_more : {A : Type 0} → (xs ys zs : List A) → sites.Begins xs ys → drop (length ys) (xs ++ zs) ≡ drop (length ys) xs ++ zs
-left_more xs ys zs b = drop-append-le (length ys) xs zs (begins-le xs ys b)
+left_more xs ys zs b = Rattle.std.proofs.lemmas.List.drop-append-le (length ys) xs zs (begins-le xs ys b)
 
 -- the next element
 pub next_left : {A : Type 0} → (xs ys : List A) (z : A) → (b : sites.Begins xs (ys ++ z ∷ [])) → xs ≡ ys ++ z ∷ b.0

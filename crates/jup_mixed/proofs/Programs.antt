@@ -1,7 +1,5 @@
 -- A star with one site and strangers in the program.
-use Rattle.std.proofs.Common.{◌≡◌, inl, inr, refl, sym, ◌∙◌, ap, subst, ℕ, ◌+◌, true, false, cond, List, [], ◌∷◌, ◌++◌, take, length, nat_eq, Option, Some, None, is_some, option_map, Result, Ok, Err, IfOk, OnOk, OnErr, Bool, nat_le, drop, append-nil, drop_of_length-le, le_refl, ◌↔◌, IsTrue}
-use Rattle.std.proofs.lemmas.Bool.{leb-true}
-use Rattle.std.proofs.lemmas.List.{nil_from_length}
+use Rattle.std.proofs.Common.{◌≡◌, inl, inr, refl, sym, ◌∙◌, ap, subst, ℕ, ◌+◌, true, false, cond, List, [], ◌∷◌, ◌++◌, take, length, nat_eq, Option, Some, None, is_some, option_map, Result, Ok, Err, IfOk, OnOk, OnErr, Bool, nat_le, drop, append-nil, drop_of_length-le, le_refl, ◌↔◌, IsTrue, leb-true}
 use Rattle.jup_mixed.specs.Prelude.{BoardBatch, board_batches, Up, Down, Attached}
 use Rattle.jup_mixed.specs.Prelude as stars
 use Rattle.jup_window.specs.Entries.{EachWidget}
@@ -351,7 +349,7 @@ home_quiet m h a fa = (to, from)
         let same : a ≡ b = cc in
         let counted : lengths (Some l) ≡ Some 0 = ap lengths (sym fl) ∙ ap (λ n. lengths (stars.link_of n m.star.links)) (sym number) ∙ q.2 in
         let zero : length l.outbox ≡ 0 = cc in
-        subst (λ (x : BoardAttached). (x.up ≡ []) × (x.down ≡ []) × (l.outbox ≡ [])) same (q.0, q.1, nil_from_length l.outbox zero)
+        subst (λ (x : BoardAttached). (x.up ≡ []) × (x.down ≡ []) × (l.outbox ≡ [])) same (q.0, q.1, Rattle.std.proofs.lemmas.List.nil_from_length l.outbox zero)
 
     from : mix.IsHomeQuiet board_batches m → IsQuietAt a m.star
     from q =

@@ -1,7 +1,5 @@
 -- A star with one site and strangers is a world.
 use Rattle.std.proofs.Common.{◌≡◌, ℕ, ◌+◌, Bool, true, false, cond, not, ◌||◌, List, [], ◌∷◌, nat_eq, refl, ap, sym, ◌∙◌, subst, Option, Some, None, option_to_list, Result, Ok, Err, arith, eq-eqb, ne_eqb, eqb-true, is_some, inl, inr, ◌≤◌, ◌++◌, map, drop, take, length, zero-add, ◌≢◌}
-use Rattle.std.proofs.lemmas.Bool.{eqb-false}
-use Rattle.std.proofs.lemmas.List.{map-append}
 use Rattle.jup_mixed.specs.Prelude.{left, HomeUp, HomeDown, JoinStray}
 use Rattle.jup_mixed.specs.Prelude as stars
 use Rattle.jup_world.specs.declared.events.Reply.TheVariants.{Joined, Made, Detached, Nothing, Shown}
@@ -34,7 +32,7 @@ module _ (O : stars.Operations) where
 
   pub found_other : (j : ℕ) → nat_eq j 1 ≡ false → (site : Option (AttachedOf O)) → ((a : AttachedOf O) → site ≡ Some a → a.site.number ≡ 1) → worlds.attached j (option_to_list site) ≡ None
   found_other j apart None number = refl
-  found_other j apart (Some a) number = ap (λ b. cond b (Some a) None) (ne_eqb a.site.number j (λ e. eqb-false j 1 apart (sym e ∙ number a refl)))
+  found_other j apart (Some a) number = ap (λ b. cond b (Some a) None) (ne_eqb a.site.number j (λ e. Rattle.std.proofs.lemmas.Bool.eqb-false j 1 apart (sym e ∙ number a refl)))
 
 module _ (O : stars.Operations) (most : ℕ) (m : mix.MixOf O) (h : mix.IsHomeWorld O most m) where
   -- an event of the site
@@ -121,7 +119,7 @@ module _ (O : stars.Operations) (most : ℕ) (m : mix.MixOf O) (h : mix.IsHomeWo
   world_is e =
       let with_trace : List (worlds.HappenedOf O) → WorldOf O = λ hs. record { opening = m.opening; star = (mix.mix_outcome O m e).star; sites = option_to_list (mix.mix_outcome O m e).site; trace = record { event = world_events.Join; reply = Joined 1 } ∷ hs } in
       ap (worlds.with_outcome O (mix.world_of O m) (mix.world_event O e)) (outcome_is e)
-      ∙ ap with_trace (sym (map-append (mix.world_happened O) m.trace (record { event = e; reply = (mix.mix_outcome O m e).reply } ∷ [])))
+      ∙ ap with_trace (sym (Rattle.std.proofs.lemmas.List.map-append (mix.world_happened O) m.trace (record { event = e; reply = (mix.mix_outcome O m e).reply } ∷ [])))
 
   -- the site keeps its number
   abbrev pub Numbered : Option (AttachedOf O) → Type 0
@@ -365,7 +363,7 @@ module _ (O : stars.Operations) (L : stars.AreLawful O) where
   module _ (symmetric : (x y : O.State) → O.t.keeps_order x y → O.t.keeps_order y x) where
     -- any events leave a past star for each length of the order
     pub home-past : (es : List (mix.MixEventOf O)) (most : ℕ) (m : mix.MixOf O) → mix.IsHomeWorld O most m → copies.HasPastStars O L symmetric most (mix.world_of O m) → copies.HasPastStars O L symmetric most (mix.world_of O (mix.mix_run O m es))
-    home-past es most m h past = subst (copies.HasPastStars O L symmetric most) (run_is es most m h) (copies.past_stars_run O L symmetric (map (mix.world_event O) es) most (mix.world_of O m) h.sound past)
+    home-past es most m h past = subst (copies.HasPastStars O L symmetric most) (run_is es most m h) (copies.past_stars_run O L symmetric most (map (mix.world_event O) es) (mix.world_of O m) h.sound past)
 
     -- so any two copies show in one order what both show
     pub home-copies : (es : List (mix.MixEventOf O)) (most : ℕ) (m : mix.MixOf O) → mix.IsHomeWorld O most m → copies.HasPastStars O L symmetric most (mix.world_of O m) → mix.MixOrdersAgree O m (mix.mix_run O m es)

@@ -18,7 +18,7 @@ use Rattle.jup_honest.proofs.Runs.{join_gives}
 use Rattle.jup_honest.proofs.Relies.{run-history}
 use Rattle.jup_socket.specs.Sockets as sockets
 use Rattle.jup_socket.proofs.Sockets.{all_first, up_reliable, down_reliable, edit_step, deliver_step}
-use Rattle.jup_session.specs.Sessions.{IsCallFor, IsFetchFor, welcome_lines}
+use Rattle.jup_session.specs.Sessions as session_sessions
 use Rattle.jup_served.specs.Sessions.{Ended, ServesSite, answer_of, writer_of, fetches_for, IsOwnedBy, IsServedRun, IsOneOf, IsSessionHub, IsClientStep, IsClientRun}
 use Rattle.jup_served.proofs.Calls as calls
 use Rattle.jup_served.proofs.Hubs.{IsJoin, early_join, early_fetches, owned}
@@ -91,13 +91,13 @@ ending_is_last (served.Fault n) = tt
 head_of : {A : Type 0} (x y : A) (xs ys : List A) → x ∷ xs ≡ y ∷ ys → x ≡ y
 head_of x y xs ys e = cc
 
-take_is : (site : ℕ) (c : served.Call) → calls.IsTakeFor site c → IsCallFor site c
+take_is : (site : ℕ) (c : served.Call) → calls.IsTakeFor site c → session_sessions.IsCallFor site c
 take_is site served.Join h = absurd h
 take_is site (served.Take i up) h = h
 take_is site (served.Fetch i max) h = absurd h
 take_is site (served.Leave i) h = absurd h
 
-fetch_is : (site : ℕ) (c : served.Call) → calls.IsFetchOf site c → IsCallFor site c
+fetch_is : (site : ℕ) (c : served.Call) → calls.IsFetchOf site c → session_sessions.IsCallFor site c
 fetch_is site served.Join h = absurd h
 fetch_is site (served.Take i up) h = absurd h
 fetch_is site (served.Fetch i max) h = h
@@ -114,7 +114,7 @@ takes_no_fetch : (i j : ℕ) (es : List HubEvent) → served.AllByRecursion (λ 
 takes_no_fetch i j [] all = tt
 takes_no_fetch i j (e ∷ es) all = ((λ fetch. not_both j i e.call all.0 fetch), takes_no_fetch i j es all.1)
 
-fetches_no_take : (i j : ℕ) (es : List HubEvent) → served.AllByRecursion (λ (e : HubEvent). IsFetchFor j e.call) es → served.AllByRecursion (λ (e : HubEvent). calls.IsTakeFor i e.call → ⊥) es
+fetches_no_take : (i j : ℕ) (es : List HubEvent) → served.AllByRecursion (λ (e : HubEvent). session_sessions.IsFetchFor j e.call) es → served.AllByRecursion (λ (e : HubEvent). calls.IsTakeFor i e.call → ⊥) es
 fetches_no_take i j [] all = tt
 fetches_no_take i j (e ∷ es) all = ((λ take. not_both i j e.call take (calls.fetch_of j e.call all.0)), fetches_no_take i j es all.1)
 
@@ -178,8 +178,8 @@ module _ (run : honest.SiteRun) (log : List HubEvent) (s : Ended) (is : IsServed
   all_lines_are : s.exact.lines ≡ sockets.written_down run.answer all_fetched (served.last_line s.ending ∷ [])
   all_lines_are =
       is.serves.served.lines_are ∙ ap (λ ls. ls ++ is.serves.served.later) is.serves.served.welcomed.lines_are
-      ∙ ap (λ ls. welcome_lines is.serves.served.welcomed.joined ++ ls) is.serves.served.halves.lines_are
-      ∙ ap (λ ls. welcome_lines is.serves.served.welcomed.joined ++ (ls ++ served.last_line s.ending ∷ []))
+      ∙ ap (λ ls. session_sessions.welcome_lines is.serves.served.welcomed.joined ++ ls) is.serves.served.halves.lines_are
+      ∙ ap (λ ls. session_sessions.welcome_lines is.serves.served.welcomed.joined ++ (ls ++ served.last_line s.ending ∷ []))
       (calls.fetches_are is.serves.served.site (fetches_for is.serves) is.serves.served.halves.alone)
       ∙ ap (λ ls. sockets.greeting is.serves.served.welcomed.joined.site is.serves.served.welcomed.joined.limit ls ++ (sockets.messages_down all_fetched ++ served.last_line s.ending ∷ []))
       (sym (bare_lines is.serves.served.welcomed.joined.board))
@@ -258,7 +258,7 @@ module _ (run : honest.SiteRun) (log : List HubEvent) (s : Ended) (is : IsServed
           | inr kept ↦ inr (of_writer e kept)
         ]
 
-    either : (Is : served.Call → Type 0) → ((c : served.Call) → Is c → IsCallFor run.answer.site c) → (es : List HubEvent) → IsOwnedBy s run.answer.site es
+    either : (Is : served.Call → Type 0) → ((c : served.Call) → Is c → session_sessions.IsCallFor run.answer.site c) → (es : List HubEvent) → IsOwnedBy s run.answer.site es
         → served.AllByRecursion (λ (e : HubEvent). Is e.call → (e.by ≡ s.back.number) ⊎ (e.by ≡ writer_of is.serves)) es
     either Is asks [] all = tt
     either Is asks (e ∷ es) all = ((λ call. one_of_both e (all.0 (asks e.call call))), either Is asks es all.1)
@@ -348,7 +348,7 @@ pub hub_honest : (keeps : Bool) (board : served.Windows) (limit : ℕ) (sessions
 hub_honest keeps board limit sessions log hub run s one is =
     served_honest run log s is
     (subst (λ i. IsOwnedBy s i (honest.calls run)) (ap (λ (j : Joined). j.site) (sym is.moment.answer))
-    (all_first (λ e. IsCallFor (answer_of is.serves).site e.call → IsTrue (is_among e.by (tallies s.back))) (honest.calls run) is.moment.first.0
+    (all_first (λ e. session_sessions.IsCallFor (answer_of is.serves).site e.call → IsTrue (is_among e.by (tallies s.back))) (honest.calls run) is.moment.first.0
     (subst (IsOwnedBy s (answer_of is.serves).site) is.moment.first.1 (owned keeps board limit sessions log hub s one is.serves))))
 
 -- What a client of this product shows and says is what the run of its site has.

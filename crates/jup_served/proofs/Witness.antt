@@ -24,7 +24,7 @@ use Rattle.jup_star.specs.Prelude.{Server, Toggle as ToggleWidget}
 use Rattle.jup_batch.specs.Prelude.{OnToggle as ToggleOp, SetValue as SetCommand}
 use Rattle.jup_window.specs.Prelude.{SetTo, NoSetOp as SetNothing}
 use Rattle.jup_stream.specs.declared.faults.Stop.TheVariants.{End, Fault}
-use Rattle.jup_window.specs.declared.kinds.Setting.TheVariants.{Toggle as ToggleSetting}
+use Rattle.jup_window.specs.declared.kinds.Setting.TheVariants as setting
 
 -- A session whose client says some messages, all of which are taken, and then closes its way up.
 
@@ -251,7 +251,7 @@ abbrev message : ℕ → ℕ → played.BoardBatch → Msg played.BoardBatch
 message mine heard op = record { mine = mine; heard = heard; op = op }
 
 abbrev command : Bool → Commands
-command on = SetCommand 1 1 (ToggleSetting on) ∷ []
+command on = SetCommand 1 1 (setting.Toggle on) ∷ []
 
 abbrev joined : ℕ → played.Joined
 joined i = record { site = i; limit = 9; board = board }

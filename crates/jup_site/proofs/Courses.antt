@@ -1,8 +1,8 @@
 -- The laws of a star and its sites over time.
-use Rattle.std.proofs.Common.{◌≡◌, ◌⊎◌, inl, inr, ℕ, zero, suc, ◌+◌, ◌≤◌, ◌<◌, Bool, true, false, cond, List, [], ◌∷◌, ◌++◌, length, nat_eq, nat_le, refl, ap, sym, ◌∙◌, subst, Some, None, arith, append-nil, append_assoc, leb-false, length-append, add-zero, leb-true}
-use Rattle.jup_site.specs.Prelude.{Operations, AreLawful, Entry, Up, UpOp, UpAck, UpPing, LinkState, StarOf, link_of, taken, entry, board_batches, BoardBatch, content, most_batches, highest_limit, LogFull, up_fault, new_star}
+use Rattle.std.proofs.Common.{◌≡◌, inl, inr, ℕ, zero, suc, ◌+◌, ◌≤◌, ◌<◌, Bool, true, false, cond, List, [], ◌∷◌, ◌++◌, length, nat_eq, nat_le, refl, ap, sym, ◌∙◌, subst, None, arith, append-nil, append_assoc, leb-false, length-append, add-zero, leb-true}
+use Rattle.jup_site.specs.Prelude.{Operations, AreLawful, Entry, Up, UpOp, UpAck, UpPing, StarOf, link_of, taken, entry, board_batches, BoardBatch, content, most_batches}
 use Rattle.jup_site.specs.Sound.{IsSoundStar}
-use Rattle.jup_site.specs.Moments.{Moment, Moves, newcomer, IsCalled, IsBeside}
+use Rattle.jup_site.specs.Moments.{Moment, newcomer, IsCalled, IsBeside}
 use Rattle.jup_site.specs.Courses.{Becomes, Rests, Admits, Drops, Gives, Accepts, Course, Member, number, since, BoardCourse, BoardMember, IsOpened, StarShows, IsTakenUnlessFull, SiteHolds, HasLink, Remains, KeepsOrder, AreAtOnce, ShowOneOrder}
 use Rattle.jup_site.proofs.Follows as following
 use Rattle.jup_site.proofs.Stars as stars
@@ -14,6 +14,7 @@ use Rattle.jup_batch.specs.Boards.{batch_laws}
 use Rattle.jup_star.proofs.Stars.{board_small}
 use Rattle.jup_site.proofs.Views as views
 use Rattle.jup_site.proofs.PastBoards.{order_symmetric}
+use Rattle.jup_site.proofs.Copies.{sites-agree}
 
 -- one step further
 plus : (n k : ℕ) → n + suc k ≡ suc (n + k)
@@ -30,15 +31,15 @@ module _ (O : Operations) (L : AreLawful O) (most : ℕ) (first : O.t.Content) w
   becomes-grows s t (Accepts j l fl up none) h = stars.called-taken O L most first s h j l fl up none
 
   -- its order grows by one entry at the most, at the end
-  record Adds (s t : StarOf O) : Type 0 where
-    more : List (Entry O.Edit)
-    one : length more ≤ 1
-    grows : t.order ≡ s.order ++ more
+  pub record Adds (s t : StarOf O) : Type 0 where
+    pub more : List (Entry O.Edit)
+    pub one : length more ≤ 1
+    pub grows : t.order ≡ s.order ++ more
 
   nothing : (s t : StarOf O) → t.order ≡ s.order → Adds s t
   nothing s t e = record { more = []; one = omega arith; grows = e ∙ sym (append-nil s.order) }
 
-  becomes-adds : (s t : StarOf O) → Becomes O s t → Adds s t
+  pub becomes-adds : (s t : StarOf O) → Becomes O s t → Adds s t
   becomes-adds s t (Accepts j l fl (UpOp m) none) = record { more = entry O j m ∷ []; one = omega arith; grows = refl }
   becomes-adds s t (Accepts j l fl (UpAck k) none) = nothing s t refl
   becomes-adds s t (Accepts j l fl (UpPing k) none) = nothing s t refl
@@ -54,7 +55,8 @@ module _ (O : Operations) (L : AreLawful O) (most : ℕ) (first : O.t.Content) w
   pub was-self : (s : StarOf O) → IsCalled O most first s → Was s s
   was-self s h = record { sound = h.star; follows = following.follows-same O L s s (omega arith) refl refl; more = []; grows = sym (append-nil s.order) }
 
-  was-on : (z s t : StarOf O) → Becomes O s t → IsCalled O most first s → Was z s → Was z t
+  -- and goes on
+  pub was-on : (z s t : StarOf O) → Becomes O s t → IsCalled O most first s → Was z s → Was z t
   was-on z s t b h was =
       let adds = becomes-adds s t b in record {
         sound = was.sound;
@@ -192,7 +194,7 @@ module _ (O : Operations) (L : AreLawful O) (symmetric : (x y : O.State) → O.t
   module _ (a b : Member O c) (n k : ℕ) (time : a.joins + n ≡ b.joins + k) (apart : nat_eq (number O a) (number O b) ≡ false) where
     pub members-agree : O.t.keeps_order (a.moment n).at.site.board (b.moment k).at.site.board
     members-agree =
-        past.sites-agree O L symmetric most first (since O a) (since O b) (number O a) (number O b) apart (λ x. star_when x (suc (a.joins + n))) (a.moment n) (b.moment k)
+        sites-agree O L symmetric most first (since O a) (since O b) (number O a) (number O b) apart (λ x. star_when x (suc (a.joins + n))) (a.moment n) (b.moment k)
         (b.at_star k ∙ ap (λ t. c.star (suc t)) (sym time) ∙ sym (a.at_star n)) (member-beside a n) (member-beside b k) (member-remembers a n)
         (subst (λ t. past.Recalls O L symmetric most first (since O b) (number O b) (λ x. star_when x (suc t)) (b.moment k)) (sym time) (member-remembers b k))
 

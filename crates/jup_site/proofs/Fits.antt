@@ -1,6 +1,5 @@
 -- Nothing refuses a message that fits, except a star with a full order, which refuses an edit.
-use Rattle.std.proofs.Common.{◌≡◌, ℕ, Bool, true, false, cond, length, nat_le, refl, Result, Ok, Err, ◌≤◌, ◌<◌, ◌⊎◌, not, ◌&&◌, List, [], ◌∷◌, ◌++◌, nat_lt, ap, inl, inr, ◌∙◌, IsTrue, Some, None, eq-eqb, le-leb, lt-ltb}
-use Rattle.std.proofs.lemmas.Bool.{ltb-true, ltb-false}
+use Rattle.std.proofs.Common.{◌≡◌, ℕ, Bool, true, false, cond, length, nat_le, refl, Result, Ok, Err, ◌≤◌, ◌<◌, ◌⊎◌, not, ◌&&◌, List, [], ◌∷◌, ◌++◌, nat_lt, ap, inl, inr, ◌∙◌, IsTrue, Some, None, eq-eqb, le-leb, lt-ltb, ltb-true, ltb-false}
 use Rattle.jup_site.specs.Prelude.{most_unacknowledged, Msg, Link, IsCount, IsNumber, generated, accepts_count, received_operation, EditFault, Operations, AreLawful, UpOp, UpAck, DownOp, DownAck, DownPong, LogFull, BadOp, SiteBadOp, SiteOf, edit_answer, running_test, heard_tests, deliver_tests, fits_shown, deliver_fault, test, first_fault, LinkState, StarOf, fits_board, up_fault}
 use Rattle.jup_star.specs.Sites.{within_bounds}
 use Rattle.jup_star.specs.Faults.{Test, count_tests}

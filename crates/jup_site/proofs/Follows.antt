@@ -1,6 +1,5 @@
 -- A star follows another, and a site learns more as the order grows.
 use Rattle.std.proofs.Common.{◌≡◌, ℕ, ◌≤◌, List, [], ◌∷◌, sym, subst, arith, ◌+◌, ◌++◌, drop, take, length, zero, suc}
-use Rattle.std.proofs.lemmas.List.{take-append-le}
 use Rattle.jup_site.specs.Prelude.{Operations, AreLawful, StarOf}
 use Rattle.jup_site.specs.Turns as site_turns
 use Rattle.jup_site.specs.Sound.{named_by, IsKnown, told_of}
@@ -61,7 +60,7 @@ module _ (O : Operations) (L : AreLawful O) where
   pub told_more : (i j joined n m : ℕ) (ts us : List (site_turns.Turn O.Edit)) → joined ≤ length ts → n ≤ length (site_turns.others (drop joined ts)) → n ≤ m
       → named_by O i j (take (told_of O joined n ts) ts) ≤ named_by O i j (take (told_of O joined m (ts ++ us)) (ts ++ us))
   told_more i j joined n m ts us within shown more =
-      let same : take (told_of O joined n ts) (ts ++ us) ≡ take (told_of O joined n ts) ts = take-append-le (told_of O joined n ts) ts us (told_within O L joined n ts within shown) in
+      let same : take (told_of O joined n ts) (ts ++ us) ≡ take (told_of O joined n ts) ts = Rattle.std.proofs.lemmas.List.take-append-le (told_of O joined n ts) ts us (told_within O L joined n ts within shown) in
       let told : told_of O joined n (ts ++ us) ≡ told_of O joined n ts = told_end O L joined n ts us within shown in
       let further = through-more n m (drop joined (ts ++ us)) more in
       let longer = named_by-take i j (told_of O joined n ts) (told_of O joined m (ts ++ us)) (ts ++ us) (omega arith) in

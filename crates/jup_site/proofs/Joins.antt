@@ -1,7 +1,7 @@
 -- A site that joins a star has received all of the star's order.
 use Rattle.std.proofs.Common.{◌≡◌, ℕ, ◌+◌, ◌≤◌, List, [], ◌++◌, length, ap, sym, ◌∙◌, subst, append-nil, add-zero, arith, ◌<◌, drop, take, refl, take_all, drop_of_length-le, length-append, le_refl}
 use Rattle.jup_site.specs.Prelude.{Operations, AreLawful, StarOf, opened_link, opened_site, AllByRecursion}
-use Rattle.jup_link.specs.Laws.Steps.{small_le, InStepAt-opened}
+use Rattle.jup_link.specs.Laws.Steps as link_laws
 use Rattle.jup_site.specs.Turns.{turns, edits, own_edits}
 use Rattle.jup_site.specs.Sites.{AttachedOf}
 use Rattle.jup_site.specs.Sound.{IsSoundStar, named_by, own_counts, ChangesKnown, HoldsKnown, Paired, told_of, Standing}
@@ -47,7 +47,7 @@ module _ (O : Operations) (L : AreLawful O) (most : ℕ) (first : O.t.Content) (
     star_ahead = [];
     site_side = refl;
     link_side = refl;
-    in_step = InStepAt-opened O.t L.lawful 0 s.board h.distinct (small_le O.t L.lawful 0 h.room s.board (omega arith) h.small);
+    in_step = link_laws.InStepAt-opened O.t L.lawful 0 s.board h.distinct (link_laws.small_le O.t L.lawful 0 h.room s.board (omega arith) h.small);
     room = h.room;
     small = h.small;
     enough = omega (arith, h.enough, length-append (turns i s.order) [], site_turns.length-turns i s.order);

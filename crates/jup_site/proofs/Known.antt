@@ -1,6 +1,5 @@
 -- What the ends of a link know.
 use Rattle.std.proofs.Common.{◌≡◌, ℕ, ◌+◌, ◌≤◌, Bool, true, false, cond, List, [], ◌∷◌, ◌++◌, nat_eq, refl, ap, sym, subst, inl, inr, arith, IsTrue, le_refl, eq-eqb, eqb-true, ◌∙◌, ne_eqb}
-use Rattle.std.proofs.lemmas.Bool.{eqb-false}
 use Rattle.jup_site.specs.Prelude.{past, Message, Operation, Ack, Operations, AreLawful, LinkState, AllByRecursion}
 use Rattle.jup_xform.specs.Grids.{after_all, AreValid}
 use Rattle.jup_site.specs.Turns.{IsIn, Turn, Own, Other, others}
@@ -294,7 +293,7 @@ module _ (O : Operations) (L : AreLawful O) where
             let low : O.number_of n ≤ named_by O i i (past ++ rest) = subst (λ s. O.number_of n ≤ named_by O i s (past ++ rest)) (eqb-true (O.site_of n) i e) m in
             omega arith
         cases false e =
-            let apart : nat_eq i (O.site_of n) ≡ false = ne_eqb i (O.site_of n) (λ same. eqb-false (O.site_of n) i e (sym same)) in
+            let apart : nat_eq i (O.site_of n) ≡ false = ne_eqb i (O.site_of n) (λ same. Rattle.std.proofs.lemmas.Bool.eqb-false (O.site_of n) i e (sym same)) in
             omega (arith, m, named_by-append O L i (O.site_of n) past rest, none_named i (O.site_of n) rest none apart)
 
     -- If the star has received all that the site sent, it knows what the site shows.

@@ -3,7 +3,7 @@ use Rattle.std.proofs.Common.{◌≡◌, ℕ, ◌≤◌, ◌+◌, List, [], ◌�
 use Rattle.jup_site.specs.Prelude.{Operations, AreLawful, Entry, UpOp, UpAck, UpPing, Down, DownOp, DownAck, DownPong, downs, entry, received}
 use Rattle.jup_site.specs.Turns.{turns}
 use Rattle.jup_site.specs.Sound.{named_by}
-use Rattle.jup_site.proofs.Known.{known_more, own_counts-more}
+use Rattle.jup_site.proofs.Known as known_names
 use Rattle.jup_site.proofs.Turns.{turns-append}
 use Rattle.jup_site.proofs.Pairs.Grids.{first_falling}
 use Rattle.jup_site.proofs.Pairs.Edits as pairs
@@ -62,7 +62,7 @@ module _ (O : Operations) (L : AreLawful O) (most : ℕ) (first : O.t.Content) (
 
   -- what was known stays known
   knows-on : (m n : Moment O) → IsBeside O most first since i m → Grows m n → (x : O.t.Name) → Knows O since i m x → Knows O since i n x
-  knows-on m n h g x known = known_more O L _ _ x (own_counts-more O L i m.at.site.named n.at.site.named (λ k. named_by O i k (told O since i m)) (λ k. named_by O i k (told O since i n)) g.named named) known
+  knows-on m n h g x known = known_names.known_more O L _ _ x (known_names.own_counts-more O L i m.at.site.named n.at.site.named (λ k. named_by O i k (told O since i m)) (λ k. named_by O i k (told O since i n)) g.named named) known
     where
       named : (k : ℕ) → named_by O i k (told O since i m) ≤ named_by O i k (told O since i n)
       named k = rw (g.grows, turns-append i m.star.order g.more)

@@ -1,4 +1,5 @@
 pub mod Beside
+pub mod Copies
 pub mod Counts
 pub mod Courses
 pub mod Fits

@@ -1,7 +1,6 @@
--- A star as it once was, beside a site as it goes on; and two sites at one moment.
-use Rattle.std.proofs.Common.{◌≡◌, ◌⊎◌, ℕ, ◌+◌, ◌≤◌, inl, inr, List, [], ◌∷◌, ◌++◌, drop, take, length, refl, ap, sym, ◌∙◌, subst, Ok, arith, append_assoc, append-nil, add-zero, drop_of_length-le, ◌<◌, Bool, true, false, cond, nat_eq, nat_le, take-append-drop, take_all, le_refl, eqb-true, leb-false, length-append}
+-- A star as it once was, beside a site as it goes on.
+use Rattle.std.proofs.Common.{◌≡◌, ◌⊎◌, ℕ, ◌+◌, ◌≤◌, inl, inr, List, [], ◌∷◌, ◌++◌, drop, take, length, refl, ap, sym, ◌∙◌, subst, Ok, arith, append_assoc, append-nil, add-zero, drop_of_length-le, ◌<◌, Bool, true, false, cond, nat_eq, nat_le, take-append-drop, take_all, le_refl, leb-true, leb-false, length-append}
 use Rattle.std.proofs.lemmas.List.{take-append-le}
-use Rattle.std.proofs.lemmas.Bool.{eqb-false, leb-true}
 use Rattle.jup_site.specs.Prelude.{most_beyond, mirror, Comes, Comes-nil, Operations, AreLawful, Entry, Down, DownOp, DownAck, DownPong, downs, LinkState, link_fetched, StarOf, joined, SiteOf, edit_answer, edited, received, UpOp, UpAck, UpPing}
 use Rattle.jup_site.specs.Turns.{brings, turns, others}
 use Rattle.jup_site.specs.Sites.{AttachedOf, with_edit, one_handed}
@@ -13,7 +12,7 @@ use Rattle.jup_site.proofs.Pairs.Places as places
 use Rattle.jup_site.proofs.Follows as following
 use Rattle.jup_site.specs.Moments.{next_number, newcomer, Moment, Moves, Edits, Hands, FetchesOwn, Takes, TakesOwn, Runs, Stays, Then, told, told_count, Knows, IsCalled, IsBeside}
 use Rattle.jup_site.proofs.Beside.{moves-beside}
-use Rattle.jup_site.proofs.Later.{Later, moves-grow, moves-later}
+use Rattle.jup_site.proofs.Later as site_later
 
 module _ (O : Operations) (L : AreLawful O) where
   -- A site has still to receive some of what a past star had sent to it, and these messages come first of all on their way to it. That past star may
@@ -247,7 +246,7 @@ module _ (O : Operations) (L : AreLawful O) (symmetric : (x y : O.State) → O.t
     ]
 
   -- each move keeps it
-  told_later : (z : StarOf O) (m n : Moment O) → WasStar z m → Later O L most first since i m n → IsTold O L z (Knows O since i m) m.at → IsTold O L z (Knows O since i n) n.at
+  told_later : (z : StarOf O) (m n : Moment O) → WasStar z m → site_later.Later O L most first since i m n → IsTold O L z (Knows O since i m) m.at → IsTold O L z (Knows O since i n) n.at
   told_later z m n was later t = told_on O L z (Knows O since i m) (Knows O since i n) m.at n.at was.sound.board_known later.order later.knows later.none_back t
 
   abbrev Told : StarOf O → Moment O → Type 0
@@ -256,7 +255,7 @@ module _ (O : Operations) (L : AreLawful O) (symmetric : (x y : O.State) → O.t
   tells : (z : StarOf O) (m n : Moment O) → WasStar z m → IsBeside O most first since i m → Moves O i m n → IsBeingTold O L most first z i since m.shown m.link m.at → Told z n
   tells z m n was h (Edits command op ok) t = inl (telling_makes O L symmetric most first z was.sound i since m.shown m.link m.at t command op ok)
   tells z m n was h (Hands d ds e) t = elim (telling_handed O L symmetric most first z was.sound i since m.shown m.link m.at t 0 d ds (ap (λ x. x ++ m.link.outbox) e)) [
-    | inl none ↦ inr (told_later z m n was (moves-later O L most first since i m n h (Hands d ds e))
+    | inl none ↦ inr (told_later z m n was (site_later.moves-later O L most first since i m n h (Hands d ds e))
         (all_handed O L symmetric most first z was.sound i since m.shown m.link m.at t (Knows O since i m) (bridge z m was t) none))
     | inr more ↦ inl more
   ]
@@ -272,8 +271,8 @@ module _ (O : Operations) (L : AreLawful O) (symmetric : (x y : O.State) → O.t
 
   pub moves-was : (z : StarOf O) (m n : Moment O) → IsBeside O most first since i m → Moves O i m n → WasStar z m → WasStar z n
   moves-was z m n h move was =
-      let later = moves-later O L most first since i m n h move in
-      let grown = moves-grow O L most first since i m n move in
+      let later = site_later.moves-later O L most first since i m n h move in
+      let grown = site_later.moves-grow O L most first since i m n move in
       record {
         sound = was.sound;
         follows = following.follows-chain O L z m.star n.star was.sound.board_known was.follows later.star;
@@ -308,7 +307,7 @@ module _ (O : Operations) (L : AreLawful O) (symmetric : (x y : O.State) → O.t
           cases true e = let within = leb-true k (length m.star.order) e in (was.long k within, moves-was (stars k) m n h move (was.was k within))
           cases false e =
               let above = leb-false k (length m.star.order) e in
-              let grown = moves-grow O L most first since i m n move in
+              let grown = site_later.moves-grow O L most first since i m n move in
               let is = adds k above low in
               let told_whole : length n.star.order ≡ k = omega (arith, above, low, grown.one, ap length grown.grows, length-append m.star.order grown.more) in
               (ap (λ (s : StarOf O). length s.order) is ∙ told_whole, subst (λ s. WasStar s n) (sym is) (was-now n (moves-beside O L most first since i m n move h)))
@@ -324,6 +323,15 @@ module _ (O : Operations) (L : AreLawful O) (symmetric : (x y : O.State) → O.t
 
         part : told O since i m ≡ take t (turns i z.order)
         part = ap (take t) (ap (turns i) grows ∙ turns-append i z.order more) ∙ take-append-le t (turns i z.order) (turns i more) (omega (arith, enough, length-turns i z.order))
+
+    -- so it knows what the site knows of others
+    pub knows_others : (x : O.t.Name) → Knows O since i m x → nat_eq (O.site_of x) i ≡ false → following.StarKnows O L z x
+    knows_others x (inl q) apart = inl q
+    knows_others x (inr p) apart = inr (below (nat_eq (O.site_of x) i) apart p)
+      where
+        below : (c : Bool) → c ≡ false → O.number_of x ≤ cond c m.at.site.named (named_by O i (O.site_of x) (told O since i m)) → O.number_of x ≤ named_in O z.order (O.site_of x)
+        below false e p = omega (arith, p, told_below (O.site_of x))
+        below true e p = absurd (cc)
 
 -- A site that joins knows what each past star knew.
 
@@ -354,52 +362,3 @@ module _ (O : Operations) (L : AreLawful O) (symmetric : (x y : O.State) → O.t
     grows = grows;
     told = inr (record { since = record { order = follows.order; none_back = follows.none_back }; all = λ x k. knows_now x (follows.knows x k) });
   }
-
--- Two sites beside one star.
-
-module _ (O : Operations) (L : AreLawful O) (symmetric : (x y : O.State) → O.t.keeps_order x y → O.t.keeps_order y x) (most : ℕ) (first : O.t.Content) (since later i j : ℕ) (apart : nat_eq i j ≡ false)
-    (stars : ℕ → StarOf O) (m n : Moment O) (one : n.star ≡ m.star) (a : IsBeside O most first since i m) (b : IsBeside O most first later j n)
-    (ra : Recalls O L symmetric most first since i stars m) (rb : Recalls O L symmetric most first later j stars n) where
-  same_length : length n.star.order ≡ length m.star.order
-  same_length = ap (λ (s : StarOf O). length s.order) one
-
-  within : (told_count O since i m ≤ length m.star.order) × (told_count O later j n ≤ length m.star.order)
-  within = (
-    omega (arith, places.told_within O L since m.shown (turns i m.star.order) a.stands.joined_within a.stands.shown_within, length-turns i m.star.order),
-    omega (arith, places.told_within O L later n.shown (turns j n.star.order) b.stands.joined_within b.stands.shown_within, length-turns j n.star.order, same_length),
-  )
-
-  -- a name that both sites know is known to a star whose order had all the entries that have reached either
-  knows_both : (z : StarOf O) → WasStar O L symmetric most first since i z m → WasStar O L symmetric most first later j z n → told_count O since i m ≤ length z.order → told_count O later j n ≤ length z.order
-      → (x : O.t.Name) → Knows O since i m x → Knows O later j n x → following.StarKnows O L z x
-  knows_both z wa wb low high x (inl q) there = inl q
-  knows_both z wa wb low high x (inr p) (inl q) = inl q
-  knows_both z wa wb low high x (inr p) (inr k) = inr (cases (nat_eq (O.site_of x) i) refl p (nat_eq (O.site_of x) j) refl k)
-    where
-      cases : (c : Bool) → nat_eq (O.site_of x) i ≡ c → O.number_of x ≤ cond c m.at.site.named (named_by O i (O.site_of x) (told O since i m))
-          → (d : Bool) → nat_eq (O.site_of x) j ≡ d → O.number_of x ≤ cond d n.at.site.named (named_by O j (O.site_of x) (told O later j n)) → O.number_of x ≤ named_in O z.order (O.site_of x)
-      cases false e p d f q = omega (arith, p, told_below O L symmetric most first since i z m wa.more wa.grows low (O.site_of x))
-      cases true e p false f q = omega (arith, q, told_below O L symmetric most first later j z n wb.more wb.grows high (O.site_of x))
-      cases true e p true f q = absurd (eqb-false i j apart (sym (eqb-true (O.site_of x) i e) ∙ eqb-true (O.site_of x) j f))
-
-  -- So both show in one order what both show: what connects them is the star with as many entries as have reached the site that knows more
-  pub sites-agree : O.t.keeps_order m.at.site.board n.at.site.board
-  sites-agree = cases (nat_le (told_count O since i m) (told_count O later j n)) refl
-    where
-      through : (k : ℕ) → k ≤ length m.star.order → told_count O since i m ≤ k → told_count O later j n ≤ k → (told_count O since i m ≡ k) ⊎ (told_count O later j n ≡ k) → O.t.keeps_order m.at.site.board n.at.site.board
-      through k h low high which =
-          let wa = ra.was k h in
-          let wb = rb.was k (omega (arith, h, same_length)) in
-          let long = ra.long k h in
-          L.keeps.order_chain m.at.site.board (stars k).board n.at.site.board
-          (symmetric (stars k).board m.at.site.board (was-order O L symmetric most first since i (stars k) m wa)) (was-order O L symmetric most first later j (stars k) n wb)
-          (λ x here there.
-          let known = knows_both (stars k) wa wb (omega (arith, low, long)) (omega (arith, high, long)) x (a.stands.pair.board_known x here) (b.stands.pair.board_known x there) in
-          elim which [
-            | inl e ↦ (was-since O L symmetric most first since i (stars k) m wa (e ∙ sym long)).none_back x known here
-            | inr e ↦ (was-since O L symmetric most first later j (stars k) n wb (e ∙ sym long)).none_back x known there
-          ])
-
-      cases : (c : Bool) → nat_le (told_count O since i m) (told_count O later j n) ≡ c → O.t.keeps_order m.at.site.board n.at.site.board
-      cases true e = through (told_count O later j n) within.1 (leb-true (told_count O since i m) (told_count O later j n) e) (le_refl _) (inr refl)
-      cases false e = let above = leb-false (told_count O since i m) (told_count O later j n) e in through (told_count O since i m) within.0 (le_refl _) (omega (arith, above)) (inl refl)

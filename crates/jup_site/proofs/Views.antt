@@ -1,8 +1,7 @@
 -- What a site at its place of the order shows, and what it is answered.
 use Rattle.std.proofs.Common.{◌≡◌, ◌⊎◌, ℕ, ◌+◌, ◌≤◌, ◌<◌, List, [], ◌∷◌, ◌++◌, take, drop, length, ap, sym, ◌∙◌, subst, arith, Some, None, append-nil, append_assoc, take-append-drop}
-use Rattle.std.proofs.Math.Seq.{drop-append_seam}
 use Rattle.jup_site.specs.Prelude.{InStepAt, Operations, AreLawful, StarOf, LinkState, Msg, Up, UpOp, UpAck, ups, downs, up_fault, LogFull, answer_after, most_unacknowledged}
-use Rattle.jup_link.specs.Laws.Steps.{quiet_equal, client_generated}
+use Rattle.jup_link.specs.Laws.Steps as link_laws
 use Rattle.jup_site.specs.Turns.{Turn, turns, edits, own_edits, told_count as last_told}
 use Rattle.jup_site.specs.Sites.{AttachedOf}
 use Rattle.jup_site.specs.Sound as soundness
@@ -30,13 +29,13 @@ module _ (O : Operations) (L : AreLawful O) (most : ℕ) (first : O.t.Content) (
   stands-view =
       let made_is : mine ≡ own_edits past ++ (own_edits rest ++ st.pair.raw) =
       st.pair.all_made ∙ ap (λ es. es ++ st.pair.raw) (own_edits-append past rest) ∙ append_assoc (own_edits past) (own_edits rest) st.pair.raw in
-      let left : drop (length (own_edits past)) mine ≡ own_edits rest ++ st.pair.raw = ap (drop (length (own_edits past))) made_is ∙ drop-append_seam (own_edits past) (own_edits rest ++ st.pair.raw) in
+      let left : drop (length (own_edits past)) mine ≡ own_edits rest ++ st.pair.raw = ap (drop (length (own_edits past))) made_is ∙ Rattle.std.proofs.Math.Seq.drop-append_seam (own_edits past) (own_edits rest ++ st.pair.raw) in
       st.pair.shows ∙ ap (O.t.meaning first) (append_assoc (edits past) (own_edits rest) st.pair.raw ∙ ap (λ es. edits past ++ es) (sym left))
 
   -- with nothing on its way it is level with the star
   pub stands-equal : a.up ≡ [] → a.down ≡ [] → l.outbox ≡ [] → a.site.board ≡ s.board
   stands-equal up down outbox =
-      quiet_equal O.t
+      link_laws.quiet_equal O.t
       (subst (λ f. InStepAt O.t 0 st.pair.from st.pair.site_ahead st.pair.star_ahead a.site.board s.board a.site.end l.end [] f) (ap (λ f. downs (f ++ l.outbox)) down ∙ ap downs outbox)
       (subst (λ r. InStepAt O.t 0 st.pair.from st.pair.site_ahead st.pair.star_ahead a.site.board s.board a.site.end l.end r (downs (a.down ++ l.outbox))) (ap ups up) st.pair.in_step))
 
@@ -97,4 +96,4 @@ module _ (O : Operations) (L : AreLawful O) (most : ℕ) (first : O.t.Content) (
       let none : pair.site_ahead ≡ [] = no_operations O.t m.link.end.received m.link.end.acknowledged step.far_queue.before pair.site_ahead step.far_queue.comes in
       let told : m.at.site.end.acknowledged + m.link.end.unanswered ≡ m.link.end.received = sym (ap (λ x. last_told m.at.site.end.acknowledged x + m.link.end.unanswered) (ap (λ x. x ++ m.link.outbox) down ∙ outbox)) ∙ h.counts.told in
       let short = h.counts.short in
-      omega (arith, told, short, client_generated O.t pair.in_step, ap length none)
+      omega (arith, told, short, link_laws.client_generated O.t pair.in_step, ap length none)

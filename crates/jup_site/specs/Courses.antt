@@ -1,5 +1,5 @@
 -- The course of a star that anyone calls, and of the sites that join it: what the laws of this crate speak of.
-use Rattle.std.specs.Prelude.{◌≡◌, ◌⊎◌, ℕ, suc, ◌+◌, ◌≤◌, ◌<◌, Bool, false, List, [], ◌∷◌, length, nat_eq, Option, Some, None}
+use Rattle.std.specs.Prelude.{◌≡◌, ◌⊎◌, ℕ, suc, ◌+◌, ◌≤◌, ◌<◌, Bool, false, List, [], ◌∷◌, length, nat_eq, Some, None}
 use Rattle.jup_site.specs.Prelude.{Operations, BoardBatch, Windows, board_batches, content, meaning, highest_limit, answer_after, most_unacknowledged, LogFull, Up, UpOp, UpAck, UpPing, Down, LinkState, StarOf, BoardStar, new_star, link_of, joined, left, fetched, taken, up_fault, deliver_fault}
 use Rattle.jup_site.specs.Sites.{IsOpening}
 use Rattle.jup_site.specs.Turns.{turns, own_edits}

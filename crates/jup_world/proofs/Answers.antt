@@ -5,7 +5,7 @@ use Rattle.jup_world.specs.Prelude.{Link, EditFault, BoardBatch, Commands, board
 use Rattle.jup_star.specs.declared.site.Made.{Made}
 use Rattle.jup_star.specs.declared.calls.Call.TheVariants.{Join, Take, Fetch, Leave}
 use Rattle.jup_star.specs.declared.calls.StarReply.TheVariants.{Joined as JoinedReply, Taken as TakenReply, Fetched as FetchedReply, Left as LeftReply}
-use Rattle.jup_star.specs.Sites.{EditAnswers, DeliverAnswers, deliver_result, made_result, made_by, after_edit, is_edit_memory}
+use Rattle.jup_star.specs.Sites as star_sites
 use Rattle.jup_star.specs.Messages.{UpRelabelsNoText}
 use Rattle.jup_star.specs.Stars.{BoardLink, reply_of, star_after, take_result, after_take, fetch_result}
 use Rattle.jup_world.specs.Sound.{edit_reply}
@@ -16,46 +16,46 @@ use Rattle.jup_world.specs.Happenings as happenings
 
 -- # A site's edit
 
-made_same : (r : Result BoardBatch EditFault) (s : BoardSite) (made : Made) → ◌≡◌ {A = Result Made EditFault} (Ok made) (made_result s r) → ◌≡◌ {A = BoardReply} (MadeReply made.edit) (edit_reply board_batches r)
-made_same (Ok op) s made e = ap (λ (m : Made). MadeReply m.edit) (let same : made ≡ made_by op s = cc in same)
+made_same : (r : Result BoardBatch EditFault) (s : BoardSite) (made : Made) → ◌≡◌ {A = Result Made EditFault} (Ok made) (star_sites.made_result s r) → ◌≡◌ {A = BoardReply} (MadeReply made.edit) (edit_reply board_batches r)
+made_same (Ok op) s made e = ap (λ (m : Made). MadeReply m.edit) (let same : made ≡ star_sites.made_by op s = cc in same)
 made_same (Err n) s made e = absurd (cc)
 
-pub edit_made : (command : Commands) (s t : BoardSite) (made : Made) → EditAnswers command s t (Ok made) → ◌≡◌ {A = BoardReply} (MadeReply made.edit) (edit_reply board_batches (edit_answer board_batches command s))
+pub edit_made : (command : Commands) (s t : BoardSite) (made : Made) → star_sites.EditAnswers command s t (Ok made) → ◌≡◌ {A = BoardReply} (MadeReply made.edit) (edit_reply board_batches (edit_answer board_batches command s))
 edit_made command s t made answers = made_same (edit_answer board_batches command s) s made answers.0
 
-sent_same : (r : Result BoardBatch EditFault) (a : BoardAttached) (t : BoardSite) (ups : List (Up BoardBatch)) (made : Made) → ◌≡◌ {A = Result Made EditFault} (Ok made) (made_result a.site r) → t ≡ after_edit a.site r → ups ≡ a.up ++ made.up ∷ []
+sent_same : (r : Result BoardBatch EditFault) (a : BoardAttached) (t : BoardSite) (ups : List (Up BoardBatch)) (made : Made) → ◌≡◌ {A = Result Made EditFault} (Ok made) (star_sites.made_result a.site r) → t ≡ star_sites.after_edit a.site r → ups ≡ a.up ++ made.up ∷ []
     → ◌≡◌ {A = BoardAttached} (record { site = t; up = ups; down = a.down }) (happenings.with_answer r a)
 sent_same (Ok op) a t ups made e f g =
-    let same : made ≡ made_by op a.site = cc in
+    let same : made ≡ star_sites.made_by op a.site = cc in
     let all = g ∙ ap (λ (m : Made). a.up ++ m.up ∷ []) same in
     λ i. record { site = f i; up = all i; down = a.down }
 sent_same (Err n) a t ups made e f g = absurd (cc)
 
-pub edit_sent : (command : Commands) (a : BoardAttached) (t : BoardSite) (ups : List (Up BoardBatch)) (made : Made) → EditAnswers command a.site t (Ok made) → ups ≡ a.up ++ made.up ∷ []
+pub edit_sent : (command : Commands) (a : BoardAttached) (t : BoardSite) (ups : List (Up BoardBatch)) (made : Made) → star_sites.EditAnswers command a.site t (Ok made) → ups ≡ a.up ++ made.up ∷ []
     → ◌≡◌ {A = BoardAttached} (record { site = t; up = ups; down = a.down }) (happenings.with_answer (edit_answer board_batches command a.site) a)
 edit_sent command a t ups made answers g = sent_same (edit_answer board_batches command a.site) a t ups made answers.0 answers.1 g
 
-refused_reply : (r : Result BoardBatch EditFault) (s : BoardSite) (n : EditFault) → ◌≡◌ {A = Result Made EditFault} (Err n) (made_result s r) → ◌≡◌ {A = BoardReply} (Refused n) (edit_reply board_batches r)
+refused_reply : (r : Result BoardBatch EditFault) (s : BoardSite) (n : EditFault) → ◌≡◌ {A = Result Made EditFault} (Err n) (star_sites.made_result s r) → ◌≡◌ {A = BoardReply} (Refused n) (edit_reply board_batches r)
 refused_reply (Ok op) s n e = absurd (cc)
 refused_reply (Err m) s n e = ap (λ (k : EditFault). Refused k) (let same : n ≡ m = cc in same)
 
-refused_same : (r : Result BoardBatch EditFault) (a : BoardAttached) (t : BoardSite) (n : EditFault) → ◌≡◌ {A = Result Made EditFault} (Err n) (made_result a.site r) → t ≡ after_edit a.site r → ◌≡◌ {A = BoardAttached} (record a { site = t }) (happenings.with_answer r a)
+refused_same : (r : Result BoardBatch EditFault) (a : BoardAttached) (t : BoardSite) (n : EditFault) → ◌≡◌ {A = Result Made EditFault} (Err n) (star_sites.made_result a.site r) → t ≡ star_sites.after_edit a.site r → ◌≡◌ {A = BoardAttached} (record a { site = t }) (happenings.with_answer r a)
 refused_same (Ok op) a t n e f = absurd (cc)
 refused_same (Err m) a t n e f = λ i. record { site = f i; up = a.up; down = a.down }
 
-pub edit_refused : (command : Commands) (s t : BoardSite) (fault refusal : EditFault) → is_edit_memory fault ≡ false → refusal ≡ fault → EditAnswers command s t (Err fault)
+pub edit_refused : (command : Commands) (s t : BoardSite) (fault refusal : EditFault) → star_sites.is_edit_memory fault ≡ false → refusal ≡ fault → star_sites.EditAnswers command s t (Err fault)
     → ◌≡◌ {A = BoardReply} (Refused refusal) (edit_reply board_batches (edit_answer board_batches command s))
 edit_refused command s t fault refusal other same answers =
     let call = rw other at answers in
     ap (λ (f : EditFault). Refused f) same ∙ refused_reply (edit_answer board_batches command s) s fault call.0
 
-pub edit_stays : (command : Commands) (a : BoardAttached) (t : BoardSite) (ups : List (Up BoardBatch)) (fault : EditFault) → is_edit_memory fault ≡ false → EditAnswers command a.site t (Err fault) → ups ≡ a.up
+pub edit_stays : (command : Commands) (a : BoardAttached) (t : BoardSite) (ups : List (Up BoardBatch)) (fault : EditFault) → star_sites.is_edit_memory fault ≡ false → star_sites.EditAnswers command a.site t (Err fault) → ups ≡ a.up
     → ◌≡◌ {A = BoardAttached} (record { site = t; up = ups; down = a.down }) (happenings.with_answer (edit_answer board_batches command a.site) a)
 edit_stays command a t ups fault other answers same =
     let call = rw other at answers in
     (λ i. record { site = t; up = same i; down = a.down }) ∙ refused_same (edit_answer board_batches command a.site) a t fault call.0 call.1
 
-pub edit_wanted : (command : Commands) (s t : BoardSite) (fault : EditFault) → is_edit_memory fault ≡ true → EditAnswers command s t (Err fault) → t ≡ s
+pub edit_wanted : (command : Commands) (s t : BoardSite) (fault : EditFault) → star_sites.is_edit_memory fault ≡ true → star_sites.EditAnswers command s t (Err fault) → t ≡ s
 edit_wanted command s t fault memory answers = let call = rw memory at answers in call.0
 
 -- # The star's answers
@@ -177,7 +177,7 @@ some_wait i s l n found is test empty =
 -- # What a site sends back
 
 -- it relabels no text
-pub back_relabels : (down : Down BoardBatch) (s t : BoardSite) (r : Result (Option (Up BoardBatch)) SiteFault) → DeliverAnswers down s t r → IfOk r (λ back. IfSome back UpRelabelsNoText)
+pub back_relabels : (down : Down BoardBatch) (s t : BoardSite) (r : Result (Option (Up BoardBatch)) SiteFault) → star_sites.DeliverAnswers down s t r → IfOk r (λ back. IfSome back UpRelabelsNoText)
 back_relabels down s t (Err fault) answers = tt
 back_relabels down s t (Ok back) answers = by_fault (deliver_fault board_batches down s) answers.0
   where
@@ -190,7 +190,7 @@ back_relabels down s t (Ok back) answers = by_fault (deliver_fault board_batches
     of_message (DownAck n) = tt
     of_message (DownPong k) = tt
 
-    by_fault : (fault : Option SiteFault) → Ok back ≡ deliver_result down s fault → IfSome back UpRelabelsNoText
+    by_fault : (fault : Option SiteFault) → Ok back ≡ star_sites.deliver_result down s fault → IfSome back UpRelabelsNoText
     by_fault None is =
         let same : back ≡ sent_back board_batches down s = cc in
         subst (λ (b : Option (Up BoardBatch)). IfSome b UpRelabelsNoText) (sym same) (of_message down)

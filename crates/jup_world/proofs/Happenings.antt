@@ -10,7 +10,7 @@ use Rattle.jup_lane.specs.Lanes.{messages, ups, downs}
 use Rattle.jup_world.specs.Worlds.{is_number, attached, at_site, without_site, AreAscending, IsSiteAt, Outcome, join_outcome, edit_outcome, up_outcome, first_up, down_outcome, first_down, at_linked, place_reply, down_reply, one_taken, one_handed, pinged, with_fetched}
 use Rattle.jup_world.specs.Boards.{BoardAttached, BoardWorld, BoardLink, BoardReply}
 use Rattle.jup_world.specs.Insides.{bare_attached}
-use Rattle.jup_world.specs.Events.{Happened, Join, Leave, Edit as MakeEdit, Up as MoveUp, Down as MoveDown, Ping as SendPing}
+use Rattle.jup_world.specs.Events as event
 use Rattle.jup_world.specs.Sound.{edit_reply}
 use Rattle.jup_world.specs.Happenings.{Plays, with_answer, refilled_from, refilled, fetched_for, refilled_star, handed_first, handed, reply_to, first_reply, FirstFits, FitsFirst, Spares, AreReady, Rises, IsRefused, SparesAt}
 use Rattle.jup_site.proofs.Numbers.{map_kept}
@@ -174,7 +174,7 @@ abbrev answers : BoardReply → BoardStar → List BoardAttached → Outcome boa
 answers reply star sites = record { reply = reply; star = star; sites = sites }
 
 -- a world of this star and these sites
-abbrev world_of : Windows → BoardStar → List BoardAttached → List (Happened Commands BoardBatch BoardEdits EditFault) → BoardWorld
+abbrev world_of : Windows → BoardStar → List BoardAttached → List (event.Happened Commands BoardBatch BoardEdits EditFault) → BoardWorld
 world_of opening star sites trace = record { opening = opening; star = star; sites = sites; trace = trace }
 
 all_same : (r : BoardReply) (s t : BoardStar) (xs ys : List BoardAttached) → t ≡ s → ys ≡ xs → answers r s xs ≡ answers r t ys
@@ -199,11 +199,11 @@ handed_as (d ∷ ds) os b = one_handed board_batches d ds b
 -- # Joins and departures
 
 pub plays_joined : (s t : BoardStar) (sites next : List BoardAttached) (number : ℕ) → join_fault s ≡ None → number ≡ s.given + 1 → t ≡ joined s
-    → next ≡ sites ++ record { site = opened_site (s.given + 1) s.limit s.board; up = []; down = [] } ∷ [] → Plays Join s sites (Joined number) t next
+    → next ≡ sites ++ record { site = opened_site (s.given + 1) s.limit s.board; up = []; down = [] } ∷ [] → Plays event.Join s sites (Joined number) t next
 plays_joined s t sites next number fault is e f opening trace =
     ap (join_outcome board_batches (world_of opening s sites trace)) fault ∙ (λ i. record { reply = Joined (sym is i); star = sym e i; sites = sym f i })
 
-pub plays_no_join : (s t : BoardStar) (sites next : List BoardAttached) (fault : StarFault) → join_fault s ≡ Some fault → t ≡ s → next ≡ sites → Plays Join s sites (NoJoin fault) t next
+pub plays_no_join : (s t : BoardStar) (sites next : List BoardAttached) (fault : StarFault) → join_fault s ≡ Some fault → t ≡ s → next ≡ sites → Plays event.Join s sites (NoJoin fault) t next
 plays_no_join s t sites next fault is e f opening trace =
     ap (join_outcome board_batches (world_of opening s sites trace)) is ∙ all_same _ s t sites next e f
 
@@ -248,13 +248,13 @@ pub number_is : (s : BoardStar) (j : JoinedSite) → bare_joined (Ok j) ≡ Ok (
 number_is s j told = let join : record j { board = bare j.board } ≡ joining s = cc in ap (λ (k : JoinedSite). k.site) join
 
 pub plays_left : (s t : BoardStar) (sites next : List BoardAttached) (i : ℕ) → is_some (link_of i s.links) ≡ true → is_some (attached i sites) ≡ is_some (link_of i s.links)
-    → t ≡ left i s → next ≡ without_site i sites → Plays (Leave i) s sites Left t next
+    → t ≡ left i s → next ≡ without_site i sites → Plays (event.Leave i) s sites Left t next
 plays_left s t sites next i linked alike e f opening trace =
     let l = there (link_of i s.links) linked in
     let a = there (attached i sites) (alike ∙ linked) in
     found_both (world_of opening s sites trace) i _ l.0 a.0 l.1 a.1 ∙ (λ j. record { reply = Left; star = sym e j; sites = sym f j })
 
-pub plays_no_link : (s t : BoardStar) (sites next : List BoardAttached) (i : ℕ) → link_of i s.links ≡ None → t ≡ s → next ≡ sites → Plays (Leave i) s sites Nothing t next
+pub plays_no_link : (s t : BoardStar) (sites next : List BoardAttached) (i : ℕ) → link_of i s.links ≡ None → t ≡ s → next ≡ sites → Plays (event.Leave i) s sites Nothing t next
 plays_no_link s t sites next i none e f opening trace = rw none (all_same Nothing s t sites next e f)
 
 -- # Edits and pings
@@ -269,14 +269,14 @@ edit_same w i (Err fault) = λ j. record { reply = edit_reply board_batches (Err
 
 pub plays_edit : (s t : BoardStar) (sites next : List BoardAttached) (i : ℕ) (command : Commands) (reply : BoardReply) (l : BoardLink) (a : BoardAttached) → link_of i s.links ≡ Some l → attached i sites ≡ Some a
     → reply ≡ edit_reply board_batches (edit_answer board_batches command a.site) → t ≡ s → next ≡ at_site i (with_answer (edit_answer board_batches command a.site)) sites
-    → Plays (MakeEdit i command) s sites reply t next
+    → Plays (event.Edit i command) s sites reply t next
 plays_edit s t sites next i command reply l a fl fa is e f opening trace =
     found_both (world_of opening s sites trace) i _ l a fl fa
     ∙ edit_same (world_of opening s sites trace) i (edit_answer board_batches command a.site)
     ∙ (λ j. record { reply = sym is j; star = sym e j; sites = sym f j })
 
 pub plays_ping : (s t : BoardStar) (sites next : List BoardAttached) (i k : ℕ) (l : BoardLink) (a : BoardAttached) → link_of i s.links ≡ Some l → attached i sites ≡ Some a
-    → t ≡ s → next ≡ at_site i (pinged board_batches k) sites → Plays (SendPing i k) s sites Asked t next
+    → t ≡ s → next ≡ at_site i (pinged board_batches k) sites → Plays (event.Ping i k) s sites Asked t next
 plays_ping s t sites next i k l a fl fa e f opening trace =
     found_both (world_of opening s sites trace) i _ l a fl fa ∙ (λ j. record { reply = Asked; star = sym e j; sites = sym f j })
 
@@ -287,12 +287,12 @@ up_there : (w : BoardWorld) (i : ℕ) (l : BoardLink) (a : BoardAttached) (ups :
 up_there w i l a ups fl fa e = found_both w i _ l a fl fa ∙ ap (first_up board_batches w i l) e
 
 pub plays_no_up : (s t : BoardStar) (sites next : List BoardAttached) (i : ℕ) (l : BoardLink) (a : BoardAttached) → link_of i s.links ≡ Some l → attached i sites ≡ Some a → a.up ≡ []
-    → t ≡ s → next ≡ sites → Plays (MoveUp i) s sites Nothing t next
+    → t ≡ s → next ≡ sites → Plays (event.Up i) s sites Nothing t next
 plays_no_up s t sites next i l a fl fa empty e f opening trace = up_there (world_of opening s sites trace) i l a [] fl fa empty ∙ all_same Nothing s t sites next e f
 
 pub plays_taken : (s t : BoardStar) (sites next : List BoardAttached) (i : ℕ) (l : BoardLink) (a : BoardAttached) (up : Up BoardBatch) (ups : List (Up BoardBatch)) (place : Option ℕ) → link_of i s.links ≡ Some l → attached i sites ≡ Some a
     → a.up ≡ up ∷ ups → (up_fault board_batches s l up ≡ None) × (place ≡ place_taken board_batches s up) × (t ≡ taken board_batches i up l s) → next ≡ at_site i (one_taken board_batches) sites
-    → Plays (MoveUp i) s sites (place_reply board_batches place) t next
+    → Plays (event.Up i) s sites (place_reply board_batches place) t next
 plays_taken s t sites next i l a up ups place fl fa first call f opening trace =
     up_there (world_of opening s sites trace) i l a (up ∷ ups) fl fa first
     ∙ ap (up_outcome board_batches (world_of opening s sites trace) i l up) call.0
@@ -300,7 +300,7 @@ plays_taken s t sites next i l a up ups place fl fa first call f opening trace =
 
 pub plays_detached : (s t : BoardStar) (sites next : List BoardAttached) (i : ℕ) (l : BoardLink) (a : BoardAttached) (up : Up BoardBatch) (ups : List (Up BoardBatch)) (fault refusal : StarFault) → link_of i s.links ≡ Some l → attached i sites ≡ Some a
     → a.up ≡ up ∷ ups → (up_fault board_batches s l up ≡ Some fault) × (t ≡ left i s) → refusal ≡ fault → next ≡ without_site i sites
-    → Plays (MoveUp i) s sites (Detached refusal) t next
+    → Plays (event.Up i) s sites (Detached refusal) t next
 plays_detached s t sites next i l a up ups fault refusal fl fa first call same f opening trace =
     up_there (world_of opening s sites trace) i l a (up ∷ ups) fl fa first
     ∙ ap (up_outcome board_batches (world_of opening s sites trace) i l up) call.0
@@ -325,7 +325,7 @@ handed_down w i l a number fits = cases a.down l.outbox fits
     cases (d ∷ ds) os fit = ap (down_outcome board_batches w i 0 d ds) fit ∙ (λ j. record { reply = down_reply board_batches d; star = fetched_none i w.star j; sites = at_site i (one_handed board_batches d ds) w.sites })
 
 pub plays_down : (s t : BoardStar) (sites next : List BoardAttached) (i : ℕ) (reply : BoardReply) (l : BoardLink) (a : BoardAttached) → link_of i s.links ≡ Some l → attached i sites ≡ Some a → a.site.number ≡ i
-    → FirstFits (refilled l a) → reply ≡ first_reply (refilled l a) → t ≡ refilled_star l a s → next ≡ at_site i (λ b. handed_as a.down l.outbox b) sites → Plays (MoveDown i) s sites reply t next
+    → FirstFits (refilled l a) → reply ≡ first_reply (refilled l a) → t ≡ refilled_star l a s → next ≡ at_site i (λ b. handed_as a.down l.outbox b) sites → Plays (event.Down i) s sites reply t next
 plays_down s t sites next i reply l a fl fa number fits is e f opening trace =
     found_both (world_of opening s sites trace) i _ l a fl fa
     ∙ handed_down (world_of opening s sites trace) i l a number fits
@@ -377,7 +377,7 @@ module _ (s : BoardStar) (sites : List Attached) (ready : AreReady s (map bare_a
   pub edit_plays : (command : Commands) (r : Result (Reply BoardEdits EditFault) NoMemory) (new : Attached)
       → IfOk r (λ reply. reply ≡ edit_reply board_batches (edit_answer board_batches command e.site))
       → OnOk r (bare_attached new ≡ with_answer (edit_answer board_batches command e.site) (bare_attached e))
-      → IfOk r (λ reply. Plays (MakeEdit i command) s (map bare_attached sites) reply s (map bare_attached (set sites at new)))
+      → IfOk r (λ reply. Plays (event.Edit i command) s (map bare_attached sites) reply s (map bare_attached (set sites at new)))
   edit_plays command (Ok reply) new is made =
       let l = world_answers.some_link (link_of i s.links) linked in
       plays_edit s s (map bare_attached sites) _ i command reply l.0 (bare_attached e) l.1 found is refl (changed (with_answer (edit_answer board_batches command e.site)) new made)
@@ -388,14 +388,14 @@ module _ (s : BoardStar) (sites : List Attached) (ready : AreReady s (map bare_a
   stays (Err fault) new same = unchanged new same
 
   -- a ping
-  pub ping_plays : (k : ℕ) (new : Attached) → bare_attached new ≡ pinged board_batches k (bare_attached e) → Plays (SendPing i k) s (map bare_attached sites) Asked s (map bare_attached (set sites at new))
+  pub ping_plays : (k : ℕ) (new : Attached) → bare_attached new ≡ pinged board_batches k (bare_attached e) → Plays (event.Ping i k) s (map bare_attached sites) Asked s (map bare_attached (set sites at new))
   ping_plays k new made =
       let l = world_answers.some_link (link_of i s.links) linked in
       plays_ping s s (map bare_attached sites) _ i k l.0 (bare_attached e) l.1 found refl (changed (pinged board_batches k) new made)
 
   -- messages up
   pub up_plays : (t : BoardStar) (reply : Reply BoardEdits EditFault) (new : Attached) → Rises e.site.number (messages ups e.up.way) s t reply → bare_attached new ≡ one_taken board_batches (bare_attached e)
-      → Plays (MoveUp i) s (map bare_attached sites) reply t (map bare_attached (set sites at new))
+      → Plays (event.Up i) s (map bare_attached sites) reply t (map bare_attached (set sites at new))
   up_plays t reply new rises made = cases (messages ups e.up.way) refl (subst (λ n. Rises n (messages ups e.up.way) s t reply) number rises)
     where
       l : (k : BoardLink) × (link_of i s.links ≡ Some k)
@@ -404,22 +404,22 @@ module _ (s : BoardStar) (sites : List Attached) (ready : AreReady s (map bare_a
       none_taken : (messages ups e.up.way) ≡ [] → one_taken board_batches (bare_attached e) ≡ bare_attached e
       none_taken empty = λ j. record { site = e.site; up = (ap (drop 1) empty ∙ sym empty) j; down = (messages downs e.down.way) }
 
-      cases : (us : List (Up BoardBatch)) → (messages ups e.up.way) ≡ us → Rises i us s t reply → Plays (MoveUp i) s (map bare_attached sites) reply t (map bare_attached (set sites at new))
+      cases : (us : List (Up BoardBatch)) → (messages ups e.up.way) ≡ us → Rises i us s t reply → Plays (event.Up i) s (map bare_attached sites) reply t (map bare_attached (set sites at new))
       cases [] empty told =
-          subst (λ r. Plays (MoveUp i) s (map bare_attached sites) r t (map bare_attached (set sites at new))) (sym told.0)
+          subst (λ r. Plays (event.Up i) s (map bare_attached sites) r t (map bare_attached (set sites at new))) (sym told.0)
           (plays_no_up s t (map bare_attached sites) _ i l.0 (bare_attached e) l.1 found empty told.1 (unchanged new (made ∙ none_taken empty)))
       cases (up ∷ ups) first told =
-          subst (λ r. Plays (MoveUp i) s (map bare_attached sites) r t (map bare_attached (set sites at new))) (sym told.1)
+          subst (λ r. Plays (event.Up i) s (map bare_attached sites) r t (map bare_attached (set sites at new))) (sym told.1)
           (plays_taken s t (map bare_attached sites) _ i l.0 (bare_attached e) up ups told.0 l.1 found first (world_answers.take_taken i up s t l.0 told.0 l.1 told.2) (changed (one_taken board_batches) new made))
 
   pub refused_plays : (t : BoardStar) (fault refusal : StarFault) (new : Attached) (next : List BoardAttached) → IsRefused e.site.number (messages ups e.up.way) s t fault → is_no_memory fault ≡ false → refusal ≡ fault
-      → bare_attached new ≡ bare_attached e → next ≡ without_site i (map bare_attached (set sites at new)) → Plays (MoveUp i) s (map bare_attached sites) (Detached refusal) t next
+      → bare_attached new ≡ bare_attached e → next ≡ without_site i (map bare_attached (set sites at new)) → Plays (event.Up i) s (map bare_attached sites) (Detached refusal) t next
   refused_plays t fault refusal new next refused other same made gone = cases (messages ups e.up.way) refl (subst (λ n. IsRefused n (messages ups e.up.way) s t fault) number refused)
     where
       l : (k : BoardLink) × (link_of i s.links ≡ Some k)
       l = world_answers.some_link (link_of i s.links) linked
 
-      cases : (us : List (Up BoardBatch)) → (messages ups e.up.way) ≡ us → IsRefused i us s t fault → Plays (MoveUp i) s (map bare_attached sites) (Detached refusal) t next
+      cases : (us : List (Up BoardBatch)) → (messages ups e.up.way) ≡ us → IsRefused i us s t fault → Plays (event.Up i) s (map bare_attached sites) (Detached refusal) t next
       cases [] empty told = absurd told
       cases (up ∷ ups) first told =
           plays_detached s t (map bare_attached sites) next i l.0 (bare_attached e) up ups fault refusal l.1 found first (world_answers.take_refused i up s t l.0 fault other l.1 told) same (gone ∙ ap (without_site i) (unchanged new made))
@@ -448,7 +448,7 @@ module _ (s : BoardStar) (sites : List Attached) (ready : AreReady s (map bare_a
       → IfOk r (λ reply. (l : BoardLink) → link_of e.site.number s.links ≡ Some l → reply ≡ first_reply (refilled l (bare_attached e)))
       → OnOk r ((l : BoardLink) → link_of e.site.number s.links ≡ Some l → bare_attached new ≡ handed (refilled l (bare_attached e)))
       → OnOk r ((l : BoardLink) → link_of e.site.number s.links ≡ Some l → t ≡ refilled_star l (bare_attached e) s)
-      → IfOk r (λ reply. Plays (MoveDown i) s (map bare_attached sites) reply t (map bare_attached (set sites at new)))
+      → IfOk r (λ reply. Plays (event.Down i) s (map bare_attached sites) reply t (map bare_attached (set sites at new)))
   down_plays t (Ok reply) new is site star =
       let l = world_answers.some_link (link_of e.site.number s.links) linked_there in
       let link : link_of i s.links ≡ Some l.0 = ap (λ n. link_of n s.links) (sym number) ∙ l.1 in

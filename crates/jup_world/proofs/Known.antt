@@ -1,11 +1,10 @@
 -- What the ends of a link know.
 use Rattle.std.proofs.Common.{◌≡◌, ℕ, ◌+◌, ◌≤◌, false, List, [], ◌∷◌, ◌++◌, refl, ap, sym, arith, ◌∙◌, ne_eqb, suc, ◌<◌, length, get_or, insert, take}
 use Rattle.std.proofs.lemmas.List.{length-take-le, take_more}
-use Rattle.std.proofs.lemmas.List.Edits.{insert_end}
 use Rattle.jup_world.specs.Prelude.{Side, Client, Server, past, opposite, row_operation, Item, Items, has_name, name_eq, SeqOp, Link, received_operation, unheard}
 use Rattle.jup_value.specs.Items.{AreDistinct}
 use Rattle.jup_seq.specs.Operations as operations
-use Rattle.jup_seq.specs.Laws.Squares.{room_client, room_server}
+use Rattle.jup_seq.specs.Laws.Squares as squares
 use Rattle.jup_seq.specs.Names as names
 use Rattle.jup_world.specs.Twos.{texts, InsertsUnder, named_from}
 
@@ -27,7 +26,7 @@ module _ (P : SeqOp ℕ → Type 0)
 
 -- room for the operation as it was sent is room for it as it is received
 pub received_room : (l : Link (SeqOp ℕ)) (heard : ℕ) (o : SeqOp ℕ) (x : Items ℕ) → operations.HasRoom o 0 x → operations.HasRoom (received_operation texts l heard o) 0 x
-received_room l heard o x = kept_received (λ p. operations.HasRoom p 0 x) (room_client 0 x) (room_server 0 x) l heard o
+received_room l heard o x = kept_received (λ p. operations.HasRoom p 0 x) (squares.room_client 0 x) (squares.room_server 0 x) l heard o
 
 -- it inserts names of the same site
 pub received_names : (site : ℕ) (l : Link (SeqOp ℕ)) (heard : ℕ) (o : SeqOp ℕ) → InsertsUnder site o → InsertsUnder site (received_operation texts l heard o)
@@ -87,7 +86,7 @@ pushed_item start at value items longer is before read put =
     let count : length items ≡ at = length_so_far start at items is before in
     put
     ∙ ap (λ n. insert items n y) (sym count)
-    ∙ insert_end items y
+    ∙ Rattle.std.proofs.lemmas.List.Edits.insert_end items y
     ∙ ap (λ (xs : List (Item ℕ)). xs ++ y ∷ []) is
     ∙ sym (named_from-push 1 (at + 1) (take at start) value (omega (arith, before, length-take-le at start)))
     ∙ ap (λ v. named_from 1 (take at start ++ v ∷ [])) read

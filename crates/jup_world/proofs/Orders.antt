@@ -1,5 +1,5 @@
 -- The star and each site keep the order of their items.
-use Rattle.std.proofs.Common.{◌≡◌, ℕ, ◌<◌, List, [], ◌∷◌, ◌++◌, refl, ap, sym, ◌∙◌, arith, inl, inr, Some, None, take}
+use Rattle.std.proofs.Common.{◌≡◌, ℕ, ◌<◌, List, [], ◌∷◌, refl, arith, inl, inr, Some, None, take}
 use Rattle.jup_world.specs.Prelude.{Operations, AreLawful}
 use Rattle.jup_world.specs.Traces as traces
 use Rattle.jup_world.specs.Worlds.{WorldOf, EventOf, outcome, happens, run, attached, AttachedOf}
@@ -8,7 +8,6 @@ use Rattle.jup_site.proofs.Numbers.{either}
 use Rattle.jup_site.proofs.Follows as following
 use Rattle.jup_site.proofs.Later.{runs-later}
 use Rattle.jup_world.proofs.Sound.Runs.{sound-happens}
-use Rattle.jup_world.proofs.Sound.Traces.{order-end}
 use Rattle.jup_world.proofs.Sound.Comes.{comes-to}
 use Rattle.jup_world.proofs.Sound.Steps.{star-grows, arrives}
 
@@ -24,12 +23,6 @@ module _ (O : Operations) (L : AreLawful O) where
   run-follows [] most w s = following.follows-same O L w.star w.star (omega arith) refl refl
   run-follows (e ∷ es) most w s =
       following.follows-chain O L w.star (happens O w e).star (run O (happens O w e) es).star s.star.star.board_known (event-follows most w s e) (run-follows es most (happens O w e) (sound-happens O L most w e s))
-
-  -- the star's order grows at its end
-  pub order_grows : (most : ℕ) (w : WorldOf O) (s : soundness.IsSound O most w) (e : EventOf O) → (happens O w e).star.order ≡ w.star.order ++ traces.entry_taken O w.trace (traces.order_of O w.trace) e (outcome O w e).reply
-  order_grows most w s e =
-      sym (sound-happens O L most w e s).order_is ∙ order-end O w.trace (record { event = e; reply = (outcome O w e).reply })
-      ∙ ap (λ os. os ++ traces.entry_taken O w.trace (traces.order_of O w.trace) e (outcome O w e).reply) s.order_is
 
 -- From before an event to after it each attached site keeps the order of its items, and no name that it knew comes back. Over any run so does each site that is attached at both ends.
 
@@ -65,10 +58,7 @@ module _ (O : Operations) (L : AreLawful O) where
   }
 
   module _ (most : ℕ) (w : WorldOf O) (s : soundness.IsSound O most w) (e : EventOf O) (j : ℕ) where
-    -- one event, at a site that stays: its place at its join stays
-    pub joined_same : (a b : AttachedOf O) → attached j w.sites ≡ Some a → attached j (happens O w e).sites ≡ Some b → traces.joined_at O j (happens O w e).trace ≡ traces.joined_at O j w.trace
-    joined_same a b fa fb = let was = s.sites j a fa in (comes-to O w j was.beside.given was.link a was.linked fa e b fb).since
-
+    -- one event, at a site that stays
     event_follows : (a b : AttachedOf O) → attached j w.sites ≡ Some a → attached j (happens O w e).sites ≡ Some b → SiteFollows w (happens O w e) j a b
     event_follows a b fa fb =
         let was = s.sites j a fa in
@@ -77,7 +67,7 @@ module _ (O : Operations) (L : AreLawful O) where
         record { order = later.order; knows = rw comes.since later.knows; none_back = later.none_back }
 
     -- a site that is gone stays gone
-    gone_on : attached j w.sites ≡ None → (w.star.given < j → ⊥) → attached j (happens O w e).sites ≡ None
+    pub gone_on : attached j w.sites ≡ None → (w.star.given < j → ⊥) → attached j (happens O w e).sites ≡ None
     gone_on none old = elim (arrives O w j e none) [
       | inl nobody ↦ nobody
       | inr next ↦ absurd (old (let is = next.0 in omega arith))

@@ -1,6 +1,5 @@
 use Rattle.std.proofs.Common.{◌≡◌, ℕ, ◌+◌, ◌-◌, ◌<◌, ◌≤◌, inl, inr, Bool, true, false, nat_lt, nat_le, List, [], ◌∷◌, ◌++◌, length, slice_get, refl, sym, ap, ◌∙◌, subst, arith, append-nil, Option, Some, None, Result, Ok, Err, OnOk, OnErr, option_map, if◌then◌else◌}
 use Rattle.std.proofs.lemmas.Bool.{ltb-false, leb-false, false_from_ne_true, false≢true}
-use Rattle.std.proofs.lemmas.List.{length_push}
 use Rattle.jup_world.specs.Prelude.{highest_limit, longest_sequence, most_of_two, Side, Client as ClientSide, Server as ServerSide, Name, Item, Items, name_eq, has_name, SeqOp, InsertOp, DeleteOp, RelabelOp, NoOp, Link, Message, Operation, Ack, generated, after_ack, after_count, after_receive, received_operation, link_after, state_after, message, owes, AllMessages, EditFault, TwoEdit, Insert, Delete, TwoEvent}
 use Rattle.jup_value.proofs.Items.{name_eq_refl, name_eq_same}
 use Rattle.jup_seq.specs.Operations as operations
@@ -101,7 +100,7 @@ made_end : (site : ℕ) (e : TwoEnd) (out : List (Message (SeqOp ℕ))) (op : Se
     → IsTwoEnd site (made_by e op) (out ++ message e.link op ∷ [])
 made_end site e out op end own = record {
   few = omega (arith, own.few);
-  generated_all = omega (arith, end.generated_all, length_push e.link.outgoing op);
+  generated_all = omega (arith, end.generated_all, Rattle.std.proofs.lemmas.List.length_push e.link.outgoing op);
   inserted_some = omega (arith, end.inserted_some, own.small);
   names = HoldsWithin-after site e.inserted (e.inserted + insertions op) e.text op own.valid end.names (omega arith) (λ n i here. own.within n i);
   sent_names = AllMessages-append (InsertsUnder site) out (message e.link op ∷ []) end.sent_names (own.under, tt);

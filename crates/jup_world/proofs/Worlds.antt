@@ -15,15 +15,15 @@ use Rattle.jup_world.specs.Sound.{IsSound, LinkedAt, KnowsStrays, IsPlain, ArePl
 use Rattle.jup_world.specs.Boards.{BoardWorld, BoardLink, BoardAttached, BoardEvent, IsBoardWorld, IsReached, BoardReply}
 use Rattle.jup_world.specs.Happenings.{AreNumbered, AreReady, OldestFits, IsWorld, IsSpared}
 use Rattle.jup_world.specs.Lanes as lanes
-use Rattle.jup_world.specs.Insides.{lane_event, noted_trace}
+use Rattle.jup_world.specs.Insides as insides
 use Rattle.jup_world.proofs.EventSteps as steps
 use Rattle.jup_site.proofs.Numbers as numbers
 use Rattle.jup_world.proofs.Sound.Traces.{stray-end, no_site}
 use Rattle.jup_world.proofs.Sound.Runs as sound_runs
 use Rattle.jup_world.proofs.Sound.Tallies as tallies
-use Rattle.jup_world.proofs.Happenings.{ascending_without, ascending_at, ascending_end}
+use Rattle.jup_world.proofs.Happenings as happenings
 use Rattle.jup_star.specs.declared.faults.OpenFault.TheVariants.{BadLimit, BadSite}
-use Rattle.jup_site.proofs.Items.{batch_none, layout_none}
+use Rattle.jup_site.proofs.Items as items
 
 -- The links without a site are those of strangers, by the trace.
 
@@ -234,7 +234,7 @@ ascending_above least most more (a ∷ xs) h up = (up.0, ascending_above a.site.
 step_numbered : (w : BoardWorld) → IsSound board_batches most_batches w → AreNumbered w.star w.sites → (e : BoardEvent) (o : Outcome board_batches) → steps.StepOf board_batches w e o → KeepsNumbers o
 step_numbered w s is e o (steps.Still why) = is
 step_numbered w s is e o (steps.Enters none) = record {
-  ascending = ascending_end 0 w.star.given _ w.sites refl is.ascending;
+  ascending = happenings.ascending_end 0 w.star.given _ w.sites refl is.ascending;
   positive = is.positive;
   limited = is.limited;
   named = λ i above. is.named i (omega arith);
@@ -245,19 +245,19 @@ step_numbered w s is e o (steps.EntersStray none) = record {
   limited = is.limited;
   named = λ i above. is.named i (omega arith);
 }
-step_numbered w s is e o (steps.Goes i l oa fl fa why) = sites_numbered w.star _ w.sites _ is refl refl refl (ascending_without i 0 w.star.given w.sites is.ascending)
-step_numbered w s is e o (steps.Makes i command l a op fl fa ok) = sites_numbered w.star w.star w.sites _ is refl refl refl (ascending_at (with_edit board_batches op) i 0 w.star.given (λ b. refl) w.sites is.ascending)
-step_numbered w s is e o (steps.Asks i k l a fl fa) = sites_numbered w.star _ w.sites _ is refl refl refl (ascending_at (pinged board_batches k) i 0 w.star.given (λ b. refl) w.sites is.ascending)
+step_numbered w s is e o (steps.Goes i l oa fl fa why) = sites_numbered w.star _ w.sites _ is refl refl refl (happenings.ascending_without i 0 w.star.given w.sites is.ascending)
+step_numbered w s is e o (steps.Makes i command l a op fl fa ok) = sites_numbered w.star w.star w.sites _ is refl refl refl (happenings.ascending_at (with_edit board_batches op) i 0 w.star.given (λ b. refl) w.sites is.ascending)
+step_numbered w s is e o (steps.Asks i k l a fl fa) = sites_numbered w.star _ w.sites _ is refl refl refl (happenings.ascending_at (pinged board_batches k) i 0 w.star.given (λ b. refl) w.sites is.ascending)
 step_numbered w s is e o (steps.Takes i l oa (UpOp m) fl fa brought none) = record {
-  ascending = ascending_at (one_taken board_batches) i 0 w.star.given (λ b. refl) w.sites is.ascending;
+  ascending = happenings.ascending_at (one_taken board_batches) i 0 w.star.given (λ b. refl) w.sites is.ascending;
   positive = is.positive;
   limited = is.limited;
-  named = λ j above. batch_none j (operation_at board_batches l.end m) w.star.board
+  named = λ j above. items.batch_none j (operation_at board_batches l.end m) w.star.board
       (λ n put same. let site = taken_site board_batches batch_laws w.star l m n none put in let number = link_site i l w.star.links fl in let given = link_given w s i l fl in absurd (omega arith)) (is.named j above);
 }
-step_numbered w s is e o (steps.Takes i l oa (UpAck k) fl fa brought none) = sites_numbered w.star _ w.sites _ is refl refl refl (ascending_at (one_taken board_batches) i 0 w.star.given (λ b. refl) w.sites is.ascending)
-step_numbered w s is e o (steps.Takes i l oa (UpPing k) fl fa brought none) = sites_numbered w.star _ w.sites _ is refl refl refl (ascending_at (one_taken board_batches) i 0 w.star.given (λ b. refl) w.sites is.ascending)
-step_numbered w s is e o (steps.Hands i gone l a d ds fl fa falls none) = sites_numbered w.star _ w.sites _ is refl refl refl (ascending_at (one_handed board_batches d ds) i 0 w.star.given (steps.handed_number board_batches d ds) w.sites is.ascending)
+step_numbered w s is e o (steps.Takes i l oa (UpAck k) fl fa brought none) = sites_numbered w.star _ w.sites _ is refl refl refl (happenings.ascending_at (one_taken board_batches) i 0 w.star.given (λ b. refl) w.sites is.ascending)
+step_numbered w s is e o (steps.Takes i l oa (UpPing k) fl fa brought none) = sites_numbered w.star _ w.sites _ is refl refl refl (happenings.ascending_at (one_taken board_batches) i 0 w.star.given (λ b. refl) w.sites is.ascending)
+step_numbered w s is e o (steps.Hands i gone l a d ds fl fa falls none) = sites_numbered w.star _ w.sites _ is refl refl refl (happenings.ascending_at (one_handed board_batches d ds) i 0 w.star.given (steps.handed_number board_batches d ds) w.sites is.ascending)
 
 -- each event
 pub numbered_outcome : (w : BoardWorld) (e : BoardEvent) → IsSound board_batches most_batches w → AreNumbered w.star w.sites → KeepsNumbers (outcome board_batches w e)
@@ -279,7 +279,7 @@ world_new b limit opening some limited = record {
     ascending = omega arith;
     positive = some;
     limited = limited;
-    named = λ i above. layout_none i b above opening.unsigned;
+    named = λ i above. items.layout_none i b above opening.unsigned;
   };
 }
 
@@ -299,7 +299,7 @@ world_spared w v is (inr fetched) = subst IsWorld (sym fetched.5) (still fetched
     still : (i : ℕ) (l : BoardLink) (a : BoardAttached) → link_of i w.star.links ≡ Some l → attached i w.sites ≡ Some a → IsWorld (only_fetched board_batches w i 1 l)
     still i l a fl fa = record {
       board = fetched_sound w i 1 l a fl fa is.board;
-      numbered = sites_numbered w.star _ w.sites _ is.numbered refl refl refl (ascending_at (with_fetched board_batches 1 l) i 0 w.star.given (λ b. refl) w.sites is.numbered.ascending);
+      numbered = sites_numbered w.star _ w.sites _ is.numbered refl refl refl (happenings.ascending_at (with_fetched board_batches 1 l) i 0 w.star.given (λ b. refl) w.sites is.numbered.ascending);
     }
 
 -- # What an event asks
@@ -332,7 +332,7 @@ kept_site f same j b (x ∷ later) found = step (is_number j x) (ap (λ s. nat_e
 -- The program plays no stranger, so its trace has none.
 
 -- one event
-none_played : (i : ℕ) (event : Played Command) (reply : BoardReply) (later : List (Happened Commands BoardBatch BoardEdits EditFault)) → is_stray i (lanes.plain_happened (lane_event event) reply ++ later) ≡ is_stray i later
+none_played : (i : ℕ) (event : Played Command) (reply : BoardReply) (later : List (Happened Commands BoardBatch BoardEdits EditFault)) → is_stray i (lanes.plain_happened (insides.lane_event event) reply ++ later) ≡ is_stray i later
 none_played i played.Join reply later = refl
 none_played i (played.Leave j) reply later = refl
 none_played i (played.Edit j command) reply later = refl
@@ -344,6 +344,6 @@ none_played i (played.PushUp j n) reply later = refl
 none_played i (played.PushDown j n) reply later = refl
 
 -- a trace
-pub none_stray : (trace : List (Kept Command BoardEdits EditFault)) (i : ℕ) → is_stray i (lanes.plain_trace (noted_trace trace)) ≡ false
+pub none_stray : (trace : List (Kept Command BoardEdits EditFault)) (i : ℕ) → is_stray i (lanes.plain_trace (insides.noted_trace trace)) ≡ false
 none_stray [] i = refl
-none_stray (h ∷ hs) i = none_played i h.event h.reply (lanes.plain_trace (noted_trace hs)) ∙ none_stray hs i
+none_stray (h ∷ hs) i = none_played i h.event h.reply (lanes.plain_trace (insides.noted_trace hs)) ∙ none_stray hs i

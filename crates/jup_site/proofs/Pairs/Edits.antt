@@ -5,7 +5,7 @@ use Rattle.jup_site.specs.Prelude.{most_beyond, most_unacknowledged, AllApart, M
 use Rattle.jup_link.specs.Laws.Steps as link_laws
 use Rattle.jup_site.specs.Turns.{Turn, Own, Other, edits, own_edits, others, IsIn, through_others}
 use Rattle.jup_site.specs.Sound.{SameMeaning, RowStands, edits_sent, named_by, own_counts, ChangesKnown, ChangesHeld, HoldsKnown, Inherits, RawNamed, OrderNamed, Paired, server_past_all, clients_past, Shows, IsKnown}
-use Rattle.jup_site.specs.Sites.{AttachedOf, with_edit}
+use Rattle.jup_site.specs.Sites as sites
 use Rattle.jup_site.proofs.Pairs.Grids as grids
 use Rattle.jup_site.proofs.Known as known_names
 use Rattle.jup_site.proofs.Fits.{answer_ok}
@@ -25,7 +25,7 @@ module _ (O : Operations) (L : AreLawful O) where
       let whole_sent : past ++ (Other k g ∷ ts) ≡ (past ++ Other k g ∷ []) ++ ts = sym (append_assoc past (Other k g ∷ []) ts) in
       (h.0, order_named-other i (past ++ Other k g ∷ []) ts j e h.1 p f (subst (λ ts. IsTrue (O.bears_next j (named_by O i j ts) e)) whole_sent b) (subst (λ ts. ChangesHeld O (λ k. named_by O i k ts) e) whole_sent d))
 
-  module _ (most i : ℕ) (first : O.t.Content) (past rest : List (Turn O.Edit)) (held : O.State) (mine : List O.Edit) (l : LinkState O.Op) (a : AttachedOf O)
+  module _ (most i : ℕ) (first : O.t.Content) (past rest : List (Turn O.Edit)) (held : O.State) (mine : List O.Edit) (l : LinkState O.Op) (a : sites.AttachedOf O)
       (h : Paired O most i first past rest held mine l a) (few : length (past ++ rest) + most_beyond ≤ most) (counted : most ≤ 4294967295)
       (op : O.Op) (j : ℕ) (e : O.Edit) (accepted : O.t.is_valid op held)
       (same : SameMeaning O ((edits past ++ edits rest) ++ O.t.edit_of op ∷ []) ((edits past ++ edits rest) ++ e ∷ []))
@@ -104,14 +104,14 @@ abbrev pub shown : (O : Operations) → SiteOf O → Msg O.Op → SiteOf O
 shown O site m = record site { board = O.t.after (operation_at O site.end m) site.board; end = end_after O site.end m }
 
 -- the same with its streams
-abbrev pub shown_at : (O : Operations) → AttachedOf O → Msg O.Op → List (Down O.Op) → AttachedOf O
+abbrev pub shown_at : (O : Operations) → sites.AttachedOf O → Msg O.Op → List (Down O.Op) → sites.AttachedOf O
 shown_at O a m falling = record { site = shown O a.site m; up = a.up; down = falling }
 
 -- its link once the message is gone
 abbrev pub link_left : {Op : Type 0} → LinkState Op → List (Down Op) → LinkState Op
 link_left l outbox = record { site = l.site; end = l.end; outbox = outbox; named = l.named }
 
-module _ (O : Operations) (L : AreLawful O) (most i : ℕ) (first : O.t.Content) (past rest : List (Turn O.Edit)) (held : O.State) (mine : List O.Edit) (l : LinkState O.Op) (a : AttachedOf O)
+module _ (O : Operations) (L : AreLawful O) (most i : ℕ) (first : O.t.Content) (past rest : List (Turn O.Edit)) (held : O.State) (mine : List O.Edit) (l : LinkState O.Op) (a : sites.AttachedOf O)
     (h : Paired O most i first past rest held mine l a) (few : length (past ++ rest) + most_beyond ≤ most)
     (m : Msg O.Op) (ds : List (Message O.Op)) (comes : downs (a.down ++ l.outbox) ≡ sent m ∷ ds)
     (falling outbox : List (Down O.Op)) (left : downs (falling ++ outbox) ≡ ds) (s : O.Op) (ss : List O.Op) (down : h.star_ahead ≡ s ∷ ss) where
@@ -320,11 +320,11 @@ module _ (O : Operations) (L : AreLawful O) where
       differ : (j i : ℕ) → nat_eq j i ≡ false → j ≡ i → ⊥
       differ j i h e = eqb-false j i h e
 
-  module _ (most i : ℕ) (first : O.t.Content) (past rest : List (Turn O.Edit)) (held : O.State) (mine : List O.Edit) (l : LinkState O.Op) (a : AttachedOf O)
+  module _ (most i : ℕ) (first : O.t.Content) (past rest : List (Turn O.Edit)) (held : O.State) (mine : List O.Edit) (l : LinkState O.Op) (a : sites.AttachedOf O)
       (h : Paired O most i first past rest held mine l a) (command : O.Command) (op : O.Op) (ok : edit_answer O command a.site ≡ Ok op)
       (few : length (past ++ rest) + most_beyond ≤ most) (counted : most ≤ 4294967295) where
     -- the pair once the site made an edit
-    pub pair-makes : Paired O most i first past rest held (mine ++ O.t.edit_of op ∷ []) l (with_edit O op a)
+    pub pair-makes : Paired O most i first past rest held (mine ++ O.t.edit_of op ∷ []) l (sites.with_edit O op a)
     pair-makes =
         let answer = answer_ok O a.site command op ok in
         let made_at : O.operation_of a.site.board command i a.site.named ≡ Ok op = subst (λ j. O.operation_of a.site.board command j a.site.named ≡ Ok op) h.site_number answer.0 in

@@ -1,9 +1,8 @@
 -- Deliveries, and worlds in which none is left.
 use Rattle.std.proofs.Common.{◌≡◌, ℕ, Bool, true, false, List, [], ◌∷◌, ◌++◌, length, refl, subst, Some, leb-false, leb-true, nat_le, sym, ap, zero, suc, ◌+◌, ◌*◌, ◌<◌, ◌≤◌, cond, drop, nat_eq, Option, None, option_map, option_to_list, arith, eq-eqb, ◌∙◌, map, get_or, ◌↔◌, eqb-true, ne_eqb}
 use Rattle.std.proofs.lemmas.Bool.{eqb-false}
-use Rattle.std.proofs.lemmas.List.{nil_from_length}
 use Rattle.jup_world.specs.Prelude.{Msg, Link, owes, next_message, Operations, AreLawful, board_batches, BoardBatch, batch_laws, Up, UpOp, UpAck, UpPing, Down, DownOp, DownAck, DownPong, StarOf, owed_down, link_acked, link_ponged, link_fetched, link_sent, link_heard, operation_at, end_after, link_of, without, at_link, links_after, most_batches, BoardStar, sent_back, Attached, Nothing}
-use Rattle.jup_world.specs.Events.{Up as MoveUp, Down as MoveDown}
+use Rattle.jup_world.specs.Events as world_events
 use Rattle.jup_world.specs.Worlds.{WorldOf, EventOf, attached, IsQuiet, Outcome, outcome, at_site, without_site, happens, is_number, AreAscending, AttachedOf, one_taken, one_handed}
 use Rattle.jup_world.specs.Sound as soundness
 use Rattle.jup_world.specs.Boards.{BoardWorld, BoardLink, BoardAttached, BoardEvent, AllAgree}
@@ -13,7 +12,7 @@ use Rattle.jup_world.specs.Insides.{bare_attached}
 use Rattle.jup_world.specs.Traces as traces
 use Rattle.jup_world.specs.Happenings.{IsQuietAt, AllQuiet, IsWorld}
 use Rattle.jup_world.proofs.EventSteps as steps
-use Rattle.jup_site.proofs.Numbers.{at_one, at_all, at_removal}
+use Rattle.jup_site.proofs.Numbers as numbers
 use Rattle.jup_world.proofs.Sound.Runs as sound_runs
 use Rattle.jup_world.proofs.Worlds.{link_given, are_linked}
 use Rattle.jup_world.proofs.Sound.Traces.{standing_of}
@@ -47,12 +46,12 @@ module _ (O : Operations) (L : AreLawful O) where
 
   -- if no delivery at an attached site answers anything, no message is on its way
   pub nothing_quiet : (most : ℕ) (w : WorldOf O) → soundness.IsSound O most w
-      → ((i : ℕ) (a : AttachedOf O) → attached i w.sites ≡ Some a → ((outcome O w (MoveUp i)).reply ≡ Nothing) × ((outcome O w (MoveDown i)).reply ≡ Nothing))
+      → ((i : ℕ) (a : AttachedOf O) → attached i w.sites ≡ Some a → ((outcome O w (world_events.Up i)).reply ≡ Nothing) × ((outcome O w (world_events.Down i)).reply ≡ Nothing))
       → IsQuiet O w
   nothing_quiet most w s nothing i l a fl fa =
       let both = nothing i a fa in
-      let up = subst (λ r. soundness.RepliesTo O w (MoveUp i) r) both.0 (sound_runs.replies O L most w s (MoveUp i)) in
-      let down = subst (λ r. soundness.RepliesTo O w (MoveDown i) r) both.1 (sound_runs.replies O L most w s (MoveDown i)) in
+      let up = subst (λ r. soundness.RepliesTo O w (world_events.Up i) r) both.0 (sound_runs.replies O L most w s (world_events.Up i)) in
+      let down = subst (λ r. soundness.RepliesTo O w (world_events.Down i) r) both.1 (sound_runs.replies O L most w s (world_events.Down i)) in
       let below = both_empty a.down l.outbox (none_down (a.down ++ l.outbox) (down.present l a fl fa)) in
       (none_up w.star a.up (up.present l a fl fa), below.0, below.1)
 
@@ -175,14 +174,14 @@ module _ (w : BoardWorld) (sound : soundness.IsSound board_batches most_batches 
       → sum_to (suc w.star.given) (λ j. link_weight w.star.given (link_of j (at_link i f w.star.links)) (attached j (at_site i g w.sites))) + 1 ≤ weight_of w.star w.sites
   one_falls f g kf kg less =
       sum_falls (suc w.star.given) i 1 before _ among
-      (at_one (λ k. k.site) (λ b. b.site.number) (Falls 1) i f g kf kg w.star.links w.sites l (Some a) fl fa
+      (numbers.at_one (λ k. k.site) (λ b. b.site.number) (Falls 1) i f g kf kg w.star.links w.sites l (Some a) fl fa
       (at_here (λ b. up_weight w.star.given (g a).up + (down_weight (g a).down + down_weight (f l).outbox) + cond b 1 0 ≤ before i) (omega (arith, here_before))) others_stay)
 
   -- this link is dropped
   dropped_falls : 1 ≤ up_weight w.star.given a.up → sum_to (suc w.star.given) (λ j. link_weight w.star.given (link_of j (without i w.star.links)) (attached j (without_site i w.sites))) + 1 ≤ weight_of w.star w.sites
   dropped_falls some =
       sum_falls (suc w.star.given) i 1 before _ among
-      (at_removal (λ k. k.site) (λ b. b.site.number) (Falls 1) i w.star.links w.sites (at_here (λ b. 0 + cond b 1 0 ≤ before i) (omega (arith, here_before))) others_stay)
+      (numbers.at_removal (λ k. k.site) (λ b. b.site.number) (Falls 1) i w.star.links w.sites (at_here (λ b. 0 + cond b 1 0 ≤ before i) (omega (arith, here_before))) others_stay)
 
   -- an edit is sent over another link
   sent_more : (op : BoardBatch) (ol : Option BoardLink) (oa : Option BoardAttached) → link_weight w.star.given (option_map (link_sent op) ol) oa ≤ link_weight w.star.given ol oa + 2
@@ -199,7 +198,7 @@ module _ (w : BoardWorld) (sound : soundness.IsSound board_batches most_batches 
       (let little = owed_little (end_after board_batches l.end m) (owes (end_after board_batches l.end m).unanswered) in omega (arith, down-append l.outbox (owed_down (end_after board_batches l.end m)))) in
       let less : up_weight w.star.given (drop 1 a.up) + (2 * w.star.given + 10) ≡ up_weight w.star.given a.up = subst (λ ups. up_weight w.star.given (drop 1 ups) + (2 * w.star.given + 10) ≡ up_weight w.star.given ups) (sym first) (omega arith) in
       let all = sum_outweighs (suc w.star.given) i (2 * w.star.given + 10) before _ among
-      (at_all (λ k. k.site) (λ b. b.site.number) (Outweighs (2 * w.star.given + 10)) i (link_heard board_batches m) (link_sent (operation_at board_batches l.end m)) (one_taken board_batches) (λ k. refl) (λ k. refl) (λ b. refl) w.star.links w.sites l (Some a) fl fa
+      (numbers.at_all (λ k. k.site) (λ b. b.site.number) (Outweighs (2 * w.star.given + 10)) i (link_heard board_batches m) (link_sent (operation_at board_batches l.end m)) (one_taken board_batches) (λ k. refl) (λ k. refl) (λ b. refl) w.star.links w.sites l (Some a) fl fa
       (at_here (λ b. up_weight w.star.given (drop 1 a.up) + (down_weight a.down + down_weight (link_heard board_batches m l).outbox) + cond b (2 * w.star.given + 10) 0 ≤ before i + 2) (omega (arith, here_before, less, paid)))
       (λ j e. at_other j (λ b. link_weight w.star.given (option_map (link_sent (operation_at board_batches l.end m)) (link_of j w.star.links)) (attached j w.sites) + cond b (2 * w.star.given + 10) 0 ≤ before j + 2) e
       (let more = sent_more (operation_at board_batches l.end m) (link_of j w.star.links) (attached j w.sites) in omega arith))) in
@@ -300,7 +299,7 @@ found_quiet star i a (x ∷ later) found all = step (is_number i x) refl (λ h. 
 none_waits : (i : ℕ) (star : BoardStar) (l : BoardLink) → link_of i star.links ≡ Some l → option_map (λ k. length k.outbox) (link_of i star.links) ≡ Some 0 → l.outbox ≡ []
 none_waits i star l found none =
     let count : Some (length l.outbox) ≡ Some 0 = sym (ap (option_map (λ k. length k.outbox)) found) ∙ none in
-    nil_from_length l.outbox (cc)
+    Rattle.std.proofs.lemmas.List.nil_from_length l.outbox (cc)
 
 -- each site is found under its number, since they ascend
 all_found : (least most : ℕ) (sites : List BoardAttached) (P : BoardAttached → Type 0) → AreAscending least most sites → ((i : ℕ) (a : BoardAttached) → least < i → attached i sites ≡ Some a → a.site.number ≡ i → P a)

@@ -1,7 +1,6 @@
 -- The rounds of a drain.
 use Rattle.std.proofs.Common.{◌≡◌, refl, sym, ◌∙◌, ap, subst, ℕ, ◌+◌, ◌-◌, ◌<◌, ◌≤◌, Bool, true, false, not, ◌||◌, List, [], ◌∷◌, ◌++◌, length, map, nat_eq, slice_get, take, Option, Some, None, option_map, is_some, Result, Ok, Err, OnOk, OnErr, IfErr, arith, ◌↔◌, IsTrue, IsFalse, eqb-true, le_refl, cond, suc, nat_lt}
 use Rattle.std.proofs.lemmas.Bool.{eqb-false, or_parts, lt-ltb}
-use Rattle.std.proofs.lemmas.List.{map-append}
 use Rattle.jup_world.specs.Prelude.{NoMemory, EditFault, board_batches, batch_laws, BoardBatch, BoardEdits, Up, Down, StarFault, SiteFault, link_of, up_fault, place_taken, most_batches, deliver_fault, Reply, Attached, Way, WayUp, WayDown, Nothing}
 use Rattle.jup_world.specs.declared.world.draining.Halted.{Halted}
 use Rattle.jup_world.specs.Worlds.{attached, IsQuiet, AreAscending, Outcome, outcome, up_outcome, first_up, down_outcome, first_down, at_attached, at_linked, at_number, place_reply}
@@ -61,7 +60,7 @@ pub delivered_both : (w v u : LaneWorld) → IsDelivered w v → IsDelivered v u
 delivered_both w v u one two = record {
   events = one.events ++ two.events;
   deliveries = deliveries_append one.events two.events one.deliveries two.deliveries;
-  steps = subst (λ (es : List LaneEvent). AllSteps w es u) (sym (map-append (λ e. Plain e) one.events two.events))
+  steps = subst (λ (es : List LaneEvent). AllSteps w es u) (sym (Rattle.std.proofs.lemmas.List.map-append (λ e. Plain e) one.events two.events))
       (lane_worlds.steps_append (map (λ e. Plain e) one.events) (map (λ e. Plain e) two.events) w v u one.steps two.steps);
 }
 

@@ -9,7 +9,7 @@ use Rattle.jup_world.specs.Insides.{lane_of, bare_attached}
 use Rattle.jup_world.specs.Boards.{BoardWorld, BoardLink, BoardAttached, BoardEvent, BoardReply}
 use Rattle.jup_world.specs.Happenings.{Plays, Spares, AreReady, with_answer, refilled, handed_first, handed, SparesAt, IsRead, IsMovedUp, RestsDown, FillsAt, filled_messages, with_filled, star_filled, LanePlays, AreRead, SitesRest}
 use Rattle.jup_world.specs.Lanes.{LaneEvent, Plain, PushUp, PushDown, LaneSite, messages_at, plain_trace, messages_of, lane_site, without_lane, push_reply, there_up, filled_stream, there_down, filled_from, filled_for, filled_way, up_read, down_read, TouchesDown}
-use Rattle.jup_world.proofs.Happenings.{linked, number, changed, unchanged, down_spared}
+use Rattle.jup_world.proofs.Happenings as happenings
 use Rattle.jup_world.proofs.Answers.{some_link}
 use Rattle.jup_world.proofs.Lanes.Worlds.{messages_found}
 use Rattle.jup_world.proofs.Lanes.Sites as lane_sites
@@ -157,7 +157,7 @@ module _ (s : BoardStar) (sites : List Attached) (ready : AreReady s (map bare_a
   pub up_rests : (t : BoardStar) (new : Attached) → t ≡ s → bare_attached new ≡ bare_attached e → IsMovedUp (lane_of e) (lane_of new)
       → SitesRest (Plain (MoveUp i)) s (map lane_of sites) t (map lane_of (set sites at new))
   up_rests t new star same moved = record {
-    messages = inl (star, lane_sites.messages_map (set sites at new) ∙ unchanged s sites ready i at e place value new same ∙ sym (lane_sites.messages_map sites));
+    messages = inl (star, lane_sites.messages_map (set sites at new) ∙ happenings.unchanged s sites ready i at e place value new same ∙ sym (lane_sites.messages_map sites));
     carry = lane_sites.carry_set sites at e new
         (λ c. lane_sites.moved-carries ups ups_laws (lane_of e).up (lane_of new).up moved.up (subst (λ (a : Attached). Carries ups (lane_of a).up) (sym value) c))
         (λ c. subst (Carries downs) (sym moved.down) (subst (λ (a : Attached). Carries downs (lane_of a).down) (sym value) c));
@@ -227,7 +227,7 @@ module _ (s : BoardStar) (sites : List Attached) (ready : AreReady s (map bare_a
   push_up_plays n reply new is same opening trace = λ k. record {
     reply = (ap (λ (o : Option LaneSite). push_reply (min n (length (there_up o)))) there ∙ sym is) k;
     star = s;
-    sites = (lane_sites.messages_map sites ∙ sym (unchanged s sites ready i at e place value new same)) k;
+    sites = (lane_sites.messages_map sites ∙ sym (happenings.unchanged s sites ready i at e place value new same)) k;
   }
 
   pub push_down_plays : (n : ℕ) (t : BoardStar) (reply : BoardReply) (new : Attached) (l : BoardLink) → link_of i s.links ≡ Some l
@@ -241,7 +241,7 @@ module _ (s : BoardStar) (sites : List Attached) (ready : AreReady s (map bare_a
       m = messages_of (record { opening = opening; star = s; sites = map lane_of sites; trace = trace })
 
       stays : bare_attached new ≡ bare_attached e → map messages_at (map lane_of sites) ≡ map bare_attached (set sites at new)
-      stays same = lane_sites.messages_map sites ∙ sym (unchanged s sites ready i at e place value new same)
+      stays same = lane_sites.messages_map sites ∙ sym (happenings.unchanged s sites ready i at e place value new same)
 
       cases : (stream : List ℕ) (os : List (Down BoardBatch)) → bare_attached new ≡ filled_messages stream l os (bare_attached e) → t ≡ star_filled i stream os s
           → reply ≡ push_reply (min n (length (filled_stream stream os)))
@@ -251,30 +251,30 @@ module _ (s : BoardStar) (sites : List Attached) (ready : AreReady s (map bare_a
       cases [] (d ∷ os) fetches f r = λ k. record {
         reply = sym r k;
         star = sym f k;
-        sites = (ap (λ (xs : List BoardAttached). at_site i (with_fetched board_batches 1 l) xs) (lane_sites.messages_map sites) ∙ sym (changed s sites ready i at e place value (with_fetched board_batches 1 l) new fetches)) k;
+        sites = (ap (λ (xs : List BoardAttached). at_site i (with_fetched board_batches 1 l) xs) (lane_sites.messages_map sites) ∙ sym (happenings.changed s sites ready i at e place value (with_fetched board_batches 1 l) new fetches)) k;
       }
       cases (b ∷ stream) os same f r = λ k. record { reply = sym r k; star = sym f k; sites = stays same k }
 
   -- a down stream that was filled, or not
   pub fills_spared : (t : BoardStar) (new : Attached) (l : BoardLink) → FillsAt l (bare_attached e) e.down.way.stream s (bare_attached new) t
       → Spares i l s (map bare_attached sites) t (map bare_attached (set sites at new))
-  fills_spared t new l (inl same) = inl (same.1, unchanged s sites ready i at e place value new same.0)
-  fills_spared t new l (inr more) = cases e.down.way.stream l.outbox more.0 (more.1 ∙ ap (λ k. star_filled k e.down.way.stream l.outbox s) (number s sites ready i at e place value))
+  fills_spared t new l (inl same) = inl (same.1, happenings.unchanged s sites ready i at e place value new same.0)
+  fills_spared t new l (inr more) = cases e.down.way.stream l.outbox more.0 (more.1 ∙ ap (λ k. star_filled k e.down.way.stream l.outbox s) (happenings.number s sites ready i at e place value))
     where
       cases : (stream : List ℕ) (os : List (Down BoardBatch)) → bare_attached new ≡ filled_messages stream l os (bare_attached e) → t ≡ star_filled i stream os s
           → Spares i l s (map bare_attached sites) t (map bare_attached (set sites at new))
-      cases [] [] same f = inl (f, unchanged s sites ready i at e place value new same)
-      cases [] (d ∷ os) fetches f = inr (f, changed s sites ready i at e place value (with_fetched board_batches 1 l) new fetches)
-      cases (b ∷ stream) os same f = inl (f, unchanged s sites ready i at e place value new same)
+      cases [] [] same f = inl (f, happenings.unchanged s sites ready i at e place value new same)
+      cases [] (d ∷ os) fetches f = inr (f, happenings.changed s sites ready i at e place value (with_fetched board_batches 1 l) new fetches)
+      cases (b ∷ stream) os same f = inl (f, happenings.unchanged s sites ready i at e place value new same)
 
   -- # What the calls of a site leave
 
   -- its link
   link : (l : BoardLink) × (link_of i s.links ≡ Some l)
-  link = some_link (link_of i s.links) (linked s sites ready i at e place value)
+  link = some_link (link_of i s.links) (happenings.linked s sites ready i at e place value)
 
   link_there : link_of e.site.number s.links ≡ Some link.0
-  link_there = ap (λ n. link_of n s.links) (number s sites ready i at e place value) ∙ link.1
+  link_there = ap (λ n. link_of n s.links) (happenings.number s sites ready i at e place value) ∙ link.1
 
   only_link : (k : BoardLink) → link_of i s.links ≡ Some k → link.0 ≡ k
   only_link k there = let mine = link.1 in cc
@@ -311,7 +311,7 @@ module _ (s : BoardStar) (sites : List Attached) (ready : AreReady s (map bare_a
       → OnErr r (SitesRest (Plain (MoveDown i)) s (map lane_of sites) t (map lane_of (set sites at new)))
   down_result t (Ok reply) new spared moved = tt
   down_result t (Err fault) new spared moved =
-      down_rests (Plain (MoveDown i)) t link.0 new refl link.1 (down_spared s sites ready i at e place value t (Err fault) new link.0 link.1 spared) (moved link.0 link_there)
+      down_rests (Plain (MoveDown i)) t link.0 new refl link.1 (happenings.down_spared s sites ready i at e place value t (Err fault) new link.0 link.1 spared) (moved link.0 link_there)
 
   pub push_up_result : (n : ℕ) (r : Result (Reply BoardEdits EditFault) NoMemory) (new : Attached) → IfOk r (λ reply. reply ≡ push_reply (min n (length e.up.way.stream)))
       → OnOk r (bare_attached new ≡ bare_attached e) → IfOk r (λ reply. LanePlays (PushUp i n) s (map lane_of sites) reply s (map bare_attached (set sites at new)))
@@ -332,7 +332,7 @@ module _ (s : BoardStar) (sites : List Attached) (ready : AreReady s (map bare_a
   push_down_result n t (Err fault) new is made star = tt
   push_down_result n t (Ok reply) new is made star =
       push_down_plays n t reply new link.0 link.1 (is link.0 link_there) (made link.0 link_there)
-      (star link.0 link_there ∙ ap (λ k. star_filled k e.down.way.stream link.0.outbox s) (number s sites ready i at e place value))
+      (star link.0 link_there ∙ ap (λ k. star_filled k e.down.way.stream link.0.outbox s) (happenings.number s sites ready i at e place value))
 
   pub push_down_read_at : (n : ℕ) (r : Result (Reply BoardEdits EditFault) NoMemory) (new : Attached)
       → OnOk r ((l : BoardLink) → link_of e.site.number s.links ≡ Some l → bare_attached new ≡ with_filled e.down.way.stream l (bare_attached e))

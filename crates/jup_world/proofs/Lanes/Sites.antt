@@ -1,11 +1,10 @@
 -- What the calls of a site do to the bytes of its link.
 use Rattle.std.proofs.Common.{◌≡◌, ◌⊎◌, refl, sym, ◌∙◌, ap, subst, inl, inr, ℕ, zero, suc, Bool, true, false, cond, not, List, [], ◌∷◌, ◌++◌, length, map, filter, get_or, nat_eq, Some, None, eqb-true, ne_eqb, ◌+◌, ◌-◌, min, take, Option, arith, append-nil, length-append, length-drop, length-take}
 use Rattle.std.proofs.Math.ListN.{set}
-use Rattle.std.proofs.lemmas.Bool.{eqb-false}
 use Rattle.jup_world.specs.Prelude.{BoardBatch, board_batches, Down, link_of, BoardStar, fetched, downs_laws, Attached}
 use Rattle.jup_lane.specs.Lanes.{ups, downs, Carries, Codec, IsCodec, bytes_of, bytes_of_all, Way, moved, sent, handed_over, filled_to, messages, IsFilled, IsMovedOn, oldest_length}
 use Rattle.jup_lane.proofs.Lanes as lanes
-use Rattle.jup_world.specs.Worlds.{IsSiteAt, with_fetched}
+use Rattle.jup_world.specs.Worlds as worlds
 use Rattle.jup_world.specs.Boards.{BoardLink, BoardAttached}
 use Rattle.jup_world.specs.Insides.{lane_of, bare_attached}
 use Rattle.jup_world.specs.Lanes.{LaneEvent, LaneSite, messages_at, has_number, lane_site, without_lane, AllCarry, up_read, down_read, filled_way, filled_stream}
@@ -21,10 +20,10 @@ messages_map (a ∷ sites) = ap (λ (xs : List BoardAttached). bare_attached a �
 -- # The site of a number, before and after
 
 not_equal : (i j : ℕ) → nat_eq j i ≡ false → nat_eq i j ≡ false
-not_equal i j e = ne_eqb i j (λ same. eqb-false j i e (sym same))
+not_equal i j e = ne_eqb i j (λ same. Rattle.std.proofs.lemmas.Bool.eqb-false j i e (sym same))
 
 -- one site is changed: it is the one of its number, and all others stay
-pub set_found : (i : ℕ) (sites : List Attached) (at : ℕ) (d new : Attached) → IsSiteAt i (map bare_attached sites) at → new.site.number ≡ (get_or sites at d).site.number
+pub set_found : (i : ℕ) (sites : List Attached) (at : ℕ) (d new : Attached) → worlds.IsSiteAt i (map bare_attached sites) at → new.site.number ≡ (get_or sites at d).site.number
     → (j : ℕ) (a b : LaneSite) → lane_site j (map lane_of sites) ≡ Some a → lane_site j (map lane_of (set sites at new)) ≡ Some b
     → ((i ≡ j) × (a ≡ lane_of (get_or sites at d)) × (b ≡ lane_of new)) ⊎ ((nat_eq i j ≡ false) × (b ≡ a))
 set_found i [] at d new place same j a b fa fb = absurd place
@@ -118,7 +117,7 @@ same_lanes (a ∷ later) (suc at) d new same = ap (λ (xs : List LaneSite). lane
 -- # How many bytes are read
 
 -- an event at a site, of which all others keep what their readers have
-pub set_read : (event : LaneEvent) (star : BoardStar) (i : ℕ) (sites : List Attached) (at : ℕ) (d new : Attached) → IsSiteAt i (map bare_attached sites) at → new.site.number ≡ (get_or sites at d).site.number
+pub set_read : (event : LaneEvent) (star : BoardStar) (i : ℕ) (sites : List Attached) (at : ℕ) (d new : Attached) → worlds.IsSiteAt i (map bare_attached sites) at → new.site.number ≡ (get_or sites at d).site.number
     → (AllCarry (map lane_of sites) → AllCarry (map lane_of (set sites at new)))
     → length (lane_of new).up.read ≡ up_read event i (lane_of (get_or sites at d))
     → ((l : BoardLink) → link_of i star.links ≡ Some l → length (lane_of new).down.read ≡ down_read event i l (lane_of (get_or sites at d)))
@@ -234,10 +233,10 @@ filled_way-stream w outbox = cases w.stream outbox refl
     cases (b ∷ s) os e = e
 
 -- a message was fetched into a stream that had no byte
-pub fetched_site : (a b : BoardAttached) (stream : List ℕ) (l : BoardLink) → stream ≡ [] → (l.outbox ≡ [] → ⊥) → b ≡ with_fetched board_batches 1 l a → b ≡ with_filled stream l a
+pub fetched_site : (a b : BoardAttached) (stream : List ℕ) (l : BoardLink) → stream ≡ [] → (l.outbox ≡ [] → ⊥) → b ≡ worlds.with_fetched board_batches 1 l a → b ≡ with_filled stream l a
 fetched_site a b stream l empty waits made = made ∙ there l.outbox waits ∙ ap (λ (st : List ℕ). filled_messages st l l.outbox a) (sym empty)
   where
-    there : (os : List (Down BoardBatch)) → (os ≡ [] → ⊥) → with_fetched board_batches 1 l a ≡ filled_messages [] l os a
+    there : (os : List (Down BoardBatch)) → (os ≡ [] → ⊥) → worlds.with_fetched board_batches 1 l a ≡ filled_messages [] l os a
     there [] none = absurd (none refl)
     there (d ∷ os) none = refl
 

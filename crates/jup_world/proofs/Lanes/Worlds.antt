@@ -11,7 +11,7 @@ use Rattle.jup_world.specs.Worlds.{attached, IsQuiet, run, only_fetched, is_numb
 use Rattle.jup_world.specs.Boards.{BoardWorld, BoardLink, BoardEvent, BoardReply, BoardAttached}
 use Rattle.jup_world.specs.Happenings.{IsWorld, IsSpared, IsLaneWorld, LanePlays, AreRead, SitesRest, LaneSpares}
 use Rattle.jup_world.specs.Lanes.{LaneEvent, Plain, PushUp, PushDown, Noted, LaneSite, LaneWorld, messages_at, plain_happened, plain_trace, messages_of, lane_site, AllCarry, IsStill, filled_from, filled_for, messages_after, Steps, AllSteps, Rests, TouchesDown, IsSparedBy, AllTried, lane_outcome, AnswersTo, IsHalted}
-use Rattle.jup_world.specs.Sound.{named_by, own_counts, IsKnown}
+use Rattle.jup_world.specs.Sound as soundness
 use Rattle.jup_world.specs.Traces.{OrderIsKept}
 use Rattle.jup_world.specs.Insides.{lane_of, bare_attached}
 use Rattle.jup_world.proofs.Worlds as world_laws
@@ -231,7 +231,7 @@ keeps_fetched w i l = record {
       let site : b.site ≡ a.site = was.2 ∙ ap (λ (x : BoardAttached). x.site) same in
       record {
         order = subst (λ (s : BoardSite). board_batches.t.keeps_order a.site.board s.board) (sym site) (batch_laws.keeps.order_self a.site.board);
-        knows = λ n k. subst (λ (s : BoardSite). IsKnown board_batches (own_counts board_batches j s.named (λ m. named_by board_batches j m (orders.told_turns board_batches batch_laws w j))) n) (sym site) k;
+        knows = λ n k. subst (λ (s : BoardSite). soundness.IsKnown board_batches (soundness.own_counts board_batches j s.named (λ m. soundness.named_by board_batches j m (orders.told_turns board_batches batch_laws w j))) n) (sym site) k;
         none_back = λ n k held. subst (λ (s : BoardSite). board_batches.t.holds s.board n) site held;
       };
 }

@@ -1,16 +1,16 @@
 -- Each event of a world is, for each site that stays attached, a run of moves of that site.
-use Rattle.std.proofs.Common.{◌≡◌, ℕ, ◌+◌, ◌≤◌, Bool, true, false, cond, List, [], ◌∷◌, ◌++◌, map, take, drop, length, nat_eq, refl, ap, sym, ◌∙◌, subst, Option, Some, None, option_map, Ok, arith, append-nil, append_assoc, add-zero, take-append-drop, eqb-true, ne_eqb}
-use Rattle.std.proofs.lemmas.List.{append_cancel_right}
-use Rattle.jup_world.specs.Prelude.{Operations, Up, UpOp, UpAck, UpPing, Down, DownOp, DownAck, DownPong, LinkState, StarOf, opened_link, link_of, link_fetched, link_heard, link_sent, link_acked, link_ponged, operation_at, joined, left, fetched, taken, up_fault, edit_answer, EditFault, found-map, found-map_other, found-without, found-without_other, found-end_other}
+use Rattle.std.proofs.Common.{◌≡◌, ◌⊎◌, inl, inr, ℕ, ◌+◌, ◌≤◌, Bool, true, false, cond, List, [], ◌∷◌, ◌++◌, map, take, drop, length, nat_eq, refl, ap, sym, ◌∙◌, subst, Option, Some, None, option_map, Ok, arith, append-nil, append_assoc, add-zero, take-append-drop, eqb-true, ne_eqb}
+use Rattle.jup_world.specs.Prelude.{Operations, AreLawful, Up, UpOp, UpAck, UpPing, Down, DownOp, DownAck, DownPong, LinkState, StarOf, opened_link, link_of, link_fetched, link_heard, link_sent, link_acked, link_ponged, operation_at, joined, left, fetched, taken, up_fault, edit_answer, EditFault, found-map, found-map_other, found-without, found-without_other, found-end_other}
 use Rattle.jup_world.specs.Worlds.{WorldOf, AttachedOf, EventOf, Outcome, attached, at_site, without_site, new_site, with_edit, one_taken, one_handed, pinged, outcome, happens}
 use Rattle.jup_world.specs.Traces.{made, shown_count, edit_made, was_shown, order_of, joined_at, join_seen}
 use Rattle.jup_world.specs.Events.{Happened}
 use Rattle.jup_world.specs.Sound.{moment_of}
 use Rattle.jup_world.proofs.EventSteps as steps
 use Rattle.jup_world.proofs.Sound.Traces as trace_ends
-use Rattle.jup_site.proofs.Numbers.{option_map-self, map_kept}
+use Rattle.jup_site.proofs.Numbers as numbers
 use Rattle.jup_site.specs.Turns.{brings}
 use Rattle.jup_site.specs.Moments as moments
+use Rattle.jup_site.proofs.Beside.{none-stays}
 
 -- A site with its link, and that site in a later world. It has a link there, came there by moves, and the place of its join stays
 pub record ComesTo (O : Operations) (w v : WorldOf O) (j : ℕ) (l : LinkState O.Op) (a c : AttachedOf O) : Type 0 where
@@ -18,6 +18,13 @@ pub record ComesTo (O : Operations) (w v : WorldOf O) (j : ℕ) (l : LinkState O
   pub linked : link_of j v.star.links ≡ Some link
   pub since : joined_at O j v.trace ≡ joined_at O j w.trace
   pub run : moments.Runs O j (moment_of O w j l a) (moment_of O v j link c)
+
+-- A moment of a site that has no link at this star, by moves of others
+pub record IsElsewhere (O : Operations) (j : ℕ) (m : moments.Moment O) (s : StarOf O) : Type 0 where
+  pub at : moments.Moment O
+  pub star : at.star ≡ s
+  pub no_link : link_of j s.links ≡ None
+  pub run : moments.Runs O j m at
 
 module _ (O : Operations) (w : WorldOf O) (j : ℕ) (low : j ≤ w.star.given) (l : LinkState O.Op) (a : AttachedOf O) (fl : link_of j w.star.links ≡ Some l) (fa : attached j w.sites ≡ Some a) where
   -- a moment after it
@@ -28,16 +35,20 @@ module _ (O : Operations) (w : WorldOf O) (j : ℕ) (low : j ≤ w.star.given) (
   abbrev now : moments.Moment O
   now = moment_of O w j l a
 
-  -- if it is still attached, it still has a link, and came there by moves
+  -- it came by moves to a link and a site, which the world has, or has no more
   abbrev Comes : StarOf O → List O.Edit → ℕ → Option (LinkState O.Op) → Option (AttachedOf O) → Type 0
-  Comes star es n ol oa = (c : AttachedOf O) → oa ≡ Some c → (k : LinkState O.Op) × (ol ≡ Some k) × moments.Runs O j now (at star k es n c)
+  Comes star es n ol oa = (k : LinkState O.Op) × (c : AttachedOf O) × moments.Runs O j now (at star k es n c) × (((ol ≡ Some k) × (oa ≡ Some c)) ⊎ ((ol ≡ None) × (oa ≡ None)))
 
   -- by moves to a moment that says the same
+  same_run : (star : StarOf O) (k : LinkState O.Op) (c : AttachedOf O) (es mine : List O.Edit) (n shown : ℕ) → mine ≡ made j w.trace ++ es → shown ≡ shown_count j w.trace + n
+      → moments.Runs O j now (record { star = star; link = k; mine = mine; shown = shown; at = c }) → moments.Runs O j now (at star k es n c)
+  same_run star k c es mine n shown p q run =
+      let same : record { star = star; link = k; mine = mine; shown = shown; at = c } ≡ at star k es n c = cc in
+      subst (moments.Runs O j now) same run
+
   by : (star : StarOf O) (k : LinkState O.Op) (c : AttachedOf O) (es mine : List O.Edit) (n shown : ℕ) → mine ≡ made j w.trace ++ es → shown ≡ shown_count j w.trace + n
       → moments.Runs O j now (record { star = star; link = k; mine = mine; shown = shown; at = c }) → Comes star es n (Some k) (Some c)
-  by star k c es mine n shown p q run c' ec =
-      let same : record { star = star; link = k; mine = mine; shown = shown; at = c } ≡ at star k es n c' = cc in
-      (k, refl, subst (moments.Runs O j now) same run)
+  by star k c es mine n shown p q run = (k, c, same_run star k c es mine n shown p q run, inl (refl, refl))
 
   -- which tells nothing of the trace
   quiet : (star : StarOf O) (k : LinkState O.Op) (c : AttachedOf O) → moments.Runs O j now (record { star = star; link = k; mine = made j w.trace; shown = shown_count j w.trace; at = c }) → Comes star [] 0 (Some k) (Some c)
@@ -60,7 +71,7 @@ module _ (O : Operations) (w : WorldOf O) (j : ℕ) (low : j ≤ w.star.given) (
     where
       cases : (b : Bool) → nat_eq i j ≡ b → attached j (at_site i g w.sites) ≡ Some (cond b (g a) a)
       cases true e = rw (eqb-true i j e) (found-map (λ b. b.site.number) j g (λ z. z) kg (λ z. refl) w.sites ∙ ap (option_map g) fa)
-      cases false e = found-map_other (λ b. b.site.number) i j g (λ z. z) kg (λ z. refl) w.sites e ∙ option_map-self (attached j w.sites) ∙ fa
+      cases false e = found-map_other (λ b. b.site.number) i j g (λ z. z) kg (λ z. refl) w.sites e ∙ numbers.option_map-self (attached j w.sites) ∙ fa
 
   -- so by cases
   changed : (star : StarOf O) (i : ℕ) (f h : LinkState O.Op → LinkState O.Op) (g : AttachedOf O → AttachedOf O) (kf : (k : LinkState O.Op) → (f k).site ≡ k.site) (kh : (k : LinkState O.Op) → (h k).site ≡ k.site)
@@ -89,13 +100,18 @@ module _ (O : Operations) (w : WorldOf O) (j : ℕ) (low : j ≤ w.star.given) (
   goes i = cases (nat_eq i j) refl
     where
       cases : (b : Bool) → nat_eq i j ≡ b → Comes (left i w.star) [] 0 (link_of j (left i w.star).links) (attached j (without_site i w.sites))
-      cases true e = λ c ec. (let gone : attached j (without_site i w.sites) ≡ None = rw (sym (eqb-true i j e)) (found-without (λ c. c.site.number) i w.sites) in absurd (cc))
+      cases true e = (
+        l,
+        a,
+        same_run (left i w.star) l a [] (made j w.trace) 0 (shown_count j w.trace) (sym (append-nil (made j w.trace))) (sym (add-zero (shown_count j w.trace))) (one (moments.Leaves i)),
+        inr (rw (sym (eqb-true i j e)) (found-without (λ k. k.site) i w.star.links, found-without (λ c. c.site.number) i w.sites)),
+      )
       cases false e = rw (found-without_other (λ k. k.site) i j w.star.links e, fl, found-without_other (λ c. c.site.number) i j w.sites e, fa) (quiet (left i w.star) l a (one (moments.Leaves i)))
 
   -- the site alone changes
   alone : (i : ℕ) (g : AttachedOf O → AttachedOf O) → ((c : AttachedOf O) → (g c).site.number ≡ c.site.number) → (es : Bool → List O.Edit) → es false ≡ []
       → (nat_eq i j ≡ true → Comes w.star (es true) 0 (Some l) (Some (g a))) → Comes w.star (es (nat_eq i j)) 0 (link_of j w.star.links) (attached j (at_site i g w.sites))
-  alone i g kg es none own = subst (λ ls. Comes w.star (es (nat_eq i j)) 0 (link_of j ls) (attached j (at_site i g w.sites))) (map_kept (λ k. k.site) i w.star.links)
+  alone i g kg es none own = subst (λ ls. Comes w.star (es (nat_eq i j)) 0 (link_of j ls) (attached j (at_site i g w.sites))) (numbers.map_kept (λ k. k.site) i w.star.links)
       (changed w.star i (λ k. k) (λ k. k) g (λ k. refl) (λ k. refl) kg es (λ b. 0) own (λ e. rw none (quiet w.star l a moments.Stays)))
 
   -- the link and the site of the event are those of this number
@@ -127,7 +143,7 @@ module _ (O : Operations) (w : WorldOf O) (j : ℕ) (low : j ≤ w.star.given) (
     hands_own b fb gone d ds falls n is =
         let same = site_is b fb in
         let was : a.down ++ l.outbox ≡ d ∷ (ds ++ drop gone l.outbox) = rw (sym same, sym link_is) falls in
-        let first : a.down ++ take gone l.outbox ≡ d ∷ ds = append_cancel_right (a.down ++ take gone l.outbox) (d ∷ ds) (drop gone l.outbox)
+        let first : a.down ++ take gone l.outbox ≡ d ∷ ds = Rattle.std.proofs.lemmas.List.append_cancel_right (a.down ++ take gone l.outbox) (d ∷ ds) (drop gone l.outbox)
         (append_assoc a.down (take gone l.outbox) (drop gone l.outbox) ∙ ap (λ x. a.down ++ x) (take-append-drop gone l.outbox) ∙ was) in
         rw number_is
         (by (fetched j gone w.star) (link_fetched gone l) (one_handed O d ds a) [] (made j w.trace) n (shown_count j w.trace + brings d) (sym (append-nil (made j w.trace))) (ap (λ m. shown_count j w.trace + m) is)
@@ -172,15 +188,61 @@ module _ (O : Operations) (w : WorldOf O) (j : ℕ) (low : j ≤ w.star.given) (
   same_join n at e o (steps.Takes i k oa up fk fo brought none) = steps.brought_join O w brought o.reply j n at
   same_join n at e o step = refl
 
-  -- each event
-  pub comes-to : (e : EventOf O) (c : AttachedOf O) → attached j (outcome O w e).sites ≡ Some c → ComesTo O w (happens O w e) j l a c
-  comes-to e c fc =
-      let o : Outcome O = outcome O w e in
-      let h : Happened O.Command O.Op O.Edit EditFault = record { event = e; reply = o.reply } in
-      let comes = comes-step e o (steps.step_of O w e) c fc in
-      record {
-        link = comes.0;
-        linked = comes.1;
-        since = trace_ends.joined-end O j w.trace h ∙ same_join (length (order_of O w.trace)) (joined_at O j w.trace) e o (steps.step_of O w e);
-        run = rw (trace_ends.made-end j w.trace h, trace_ends.shown-end j w.trace h) comes.2;
-      }
+  module _ (e : EventOf O) where
+    -- the event, with what it answers
+    abbrev now_happens : Happened O.Command O.Op O.Edit EditFault
+    now_happens = record { event = e; reply = (outcome O w e).reply }
+
+    -- what it makes of the site's link and of the site
+    abbrev came : Comes (outcome O w e).star (edit_made {Operation = O.Op} {Fault = EditFault} j e (outcome O w e).reply) (was_shown {Command = O.Command} {Fault = EditFault} j e (outcome O w e).reply) (link_of j (outcome O w e).star.links)
+        (attached j (outcome O w e).sites)
+    came = comes-step e (outcome O w e) (steps.step_of O w e)
+
+    -- it stays
+    pub comes-to : (c : AttachedOf O) → attached j (outcome O w e).sites ≡ Some c → ComesTo O w (happens O w e) j l a c
+    comes-to c fc = elim came.3 [
+      | inl there ↦ let same : came.1 ≡ c = (let found = there.1 in cc) in
+          record {
+            link = came.0;
+            linked = there.0;
+            since = trace_ends.joined-end O j w.trace now_happens ∙ same_join (length (order_of O w.trace)) (joined_at O j w.trace) e (outcome O w e) (steps.step_of O w e);
+            run = rw (trace_ends.made-end j w.trace now_happens, trace_ends.shown-end j w.trace now_happens, sym same) came.2;
+          }
+      | inr gone ↦ absurd (let none = gone.1 in cc)
+    ]
+
+    -- or leaves, and goes on without a link
+    pub gone-to : attached j (outcome O w e).sites ≡ None → IsElsewhere O j now (outcome O w e).star
+    gone-to none = elim came.3 [
+      | inl there ↦ absurd (let found = there.1 in cc)
+      | inr gone ↦ record { at = at (outcome O w e).star came.0 _ _ came.1; star = refl; no_link = gone.0; run = came.2 }
+    ]
+
+-- A site that left goes on without a link: each event is a move of others.
+
+module _ (O : Operations) (L : AreLawful O) (most : ℕ) (w : WorldOf O) (since j : ℕ) (l : LinkState O.Op) (mine : List O.Edit) (shown : ℕ) (a : AttachedOf O) (none : link_of j w.star.links ≡ None) where
+  abbrev left_at : moments.Moment O
+  left_at = record { star = w.star; link = l; mine = mine; shown = shown; at = a }
+
+  module _ (h : moments.IsBeside O most (O.t.content w.opening) since j left_at) where
+    goes_on : {n : moments.Moment O} → moments.Moves O j left_at n → IsElsewhere O j left_at n.star
+    goes_on {n} move = record { at = n; star = refl; no_link = none-stays O L most (O.t.content w.opening) since j left_at n move h none; run = moments.Then n move moments.Stays }
+
+    -- a link is another's
+    apart : (i : ℕ) (k : LinkState O.Op) → link_of i w.star.links ≡ Some k → nat_eq i j ≡ false
+    apart i k fk = ne_eqb i j (λ e. let found : link_of j w.star.links ≡ Some k = rw (sym e) fk in absurd (cc))
+
+    elsewhere-step : (e : EventOf O) (o : Outcome O) → steps.StepOf O w e o → IsElsewhere O j left_at o.star
+    elsewhere-step e o (steps.Enters ok) = goes_on moments.Joins
+    elsewhere-step e o (steps.EntersStray ok) = goes_on moments.Joins
+    elsewhere-step e o (steps.Goes i k oa fk fo why) = goes_on (moments.Leaves i)
+    elsewhere-step e o (steps.Takes i k oa up fk fo brought ok) = goes_on (moments.Takes i (apart i k fk) k fk up ok)
+    elsewhere-step e o (steps.Hands i gone k b d ds fk fb falls ok) = goes_on (moments.Fetches i gone (apart i k fk))
+    elsewhere-step e o step = record { at = left_at; star = refl; no_link = none; run = moments.Stays }
+
+    pub goes-elsewhere : (e : EventOf O) → IsElsewhere O j left_at (outcome O w e).star
+    goes-elsewhere e = elsewhere-step e (outcome O w e) (steps.step_of O w e)
+
+    -- and so is a fetch
+    pub fetched-elsewhere : (i n : ℕ) (k : LinkState O.Op) → link_of i w.star.links ≡ Some k → IsElsewhere O j left_at (fetched i n w.star)
+    fetched-elsewhere i n k fk = goes_on (moments.Fetches i n (apart i k fk))

@@ -100,6 +100,11 @@ module _ (O : Operations) (L : AreLawful O) (most : ℕ) (w : WorldOf O) (s : Is
       → (b : AttachedOf O) × (fb : attached j w.sites ≡ Some b) × ComesTo O w (only_fetched O w i n l) j (s.sites j b fb).link b c
   fetched-from j c fc = let from = each j c fc in (from.0, from.1, record { link = from.2; linked = from.3; since = refl; run = from.4 })
 
+  -- nobody comes or goes
+  pub fetched-none : (j : ℕ) → (attached j (only_fetched O w i n l).sites ≡ None → attached j w.sites ≡ None) × (attached j w.sites ≡ None → attached j (only_fetched O w i n l).sites ≡ None)
+  fetched-none = at_one (λ k. k.site) (λ b. b.site.number) (λ j ol oa. (oa ≡ None → attached j w.sites ≡ None) × (attached j w.sites ≡ None → oa ≡ None)) i (link_fetched n) (with_fetched O n l) (λ k. refl) (λ b. refl)
+      w.star.links w.sites l (Some a) fl fa ((λ none. absurd (cc)), (λ none. absurd (cc))) (λ j apart. ((λ none. none), (λ none. none)))
+
   -- so it is sound
   pub sound-fetched : IsSound O most (only_fetched O w i n l)
   sound-fetched = record {

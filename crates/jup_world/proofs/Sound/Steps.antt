@@ -3,13 +3,15 @@ use Rattle.std.proofs.Common.{◌≡◌, ◌⊎◌, ℕ, ◌+◌, ◌<◌, inl, 
 use Rattle.jup_world.specs.Prelude.{Operations, AreLawful, Entry, UpOp, UpAck, UpPing, DownOp, DownAck, DownPong, LinkState, opened_link, link_of, entry, EditFault, found-end, found-end_other, found-map, found-map_other, found-without, found-without_other, Joined, Taken}
 use Rattle.jup_world.specs.Worlds.{WorldOf, AttachedOf, EventOf, Outcome, attached, at_site, without_site, new_site, with_edit, pinged, one_taken, one_handed, join_outcome, with_outcome, happens, outcome}
 use Rattle.jup_world.specs.Traces.{made, order_of, joined_at, shown_count, edit_made, was_shown, entry_taken}
-use Rattle.jup_world.specs.Sound.{moment_of, IsAttached, IsSound}
+use Rattle.jup_world.specs.Sound as soundness
 use Rattle.jup_world.specs.Events.{Happened, Join, Stray}
 use Rattle.jup_world.proofs.EventSteps.{Rises, Strays, StepOf, Still, Enters, EntersStray, Goes, Makes, Asks, Takes, Hands, still_silent, gone_silent, brought_made, brought_shown, step_of, handed_number}
 use Rattle.jup_world.proofs.Sound.Traces as trace_ends
 use Rattle.jup_world.proofs.Sound.Comes.{comes-to}
-use Rattle.jup_site.proofs.Numbers.{either, option_map-self}
-use Rattle.jup_site.proofs.Stars as stars
+use Rattle.jup_site.proofs.Numbers as numbers
+use Rattle.jup_site.proofs.Stars.{Grows}
+use Rattle.jup_site.proofs.Courses as courses
+use Rattle.jup_site.specs.Courses as over_time
 use Rattle.jup_site.proofs.Beside.{runs-beside, beside-new}
 use Rattle.jup_site.specs.Moments as moments
 
@@ -22,7 +24,7 @@ module _ (O : Operations) (w : WorldOf O) (j : ℕ) where
     where
       cases : (b : Bool) → nat_eq i j ≡ b → attached j (at_site i g w.sites) ≡ None
       cases true e = rw (eqb-true i j e) (found-map (λ b. b.site.number) j g (λ z. z) kg (λ z. refl) w.sites ∙ ap (option_map g) none)
-      cases false e = found-map_other (λ b. b.site.number) i j g (λ z. z) kg (λ z. refl) w.sites e ∙ option_map-self (attached j w.sites) ∙ none
+      cases false e = found-map_other (λ b. b.site.number) i j g (λ z. z) kg (λ z. refl) w.sites e ∙ numbers.option_map-self (attached j w.sites) ∙ none
 
   none_without : (i : ℕ) → attached j w.sites ≡ None → attached j (without_site i w.sites) ≡ None
   none_without i none = cases (nat_eq i j) refl
@@ -56,20 +58,25 @@ module _ (O : Operations) (w : WorldOf O) (j : ℕ) where
   pub arrives : (e : EventOf O) → attached j w.sites ≡ None → Arrives e (outcome O w e)
   arrives e = arrives-step e (outcome O w e) (step_of O w e)
 
-module _ (O : Operations) (L : AreLawful O) (most : ℕ) (w : WorldOf O) (s : IsSound O most w) where
-  -- # The star
+-- # The star
 
-  star-step : (e : EventOf O) (o : Outcome O) → StepOf O w e o → stars.Grows O L most (O.t.content w.opening) w.star o.star
-  star-step e o (Enters none) = stars.called-joined O L most (O.t.content w.opening) w.star s.star
-  star-step e o (EntersStray none) = stars.called-joined O L most (O.t.content w.opening) w.star s.star
-  star-step e o (Goes i l oa fl fa why) = stars.called-left O L most (O.t.content w.opening) w.star s.star i
-  star-step e o (Takes i l oa up fl fa brought none) = stars.called-taken O L most (O.t.content w.opening) w.star s.star i l fl up none
-  star-step e o (Hands i gone l a d ds fl fa falls none) = stars.called-fetched O L most (O.t.content w.opening) w.star s.star i gone
-  star-step e o step = stars.called-still O L most (O.t.content w.opening) w.star s.star
+module _ (O : Operations) (w : WorldOf O) where
+  becomes-step : (e : EventOf O) (o : Outcome O) → StepOf O w e o → over_time.Becomes O w.star o.star
+  becomes-step e o (Enters none) = over_time.Admits
+  becomes-step e o (EntersStray none) = over_time.Admits
+  becomes-step e o (Goes i l oa fl fa why) = over_time.Drops i
+  becomes-step e o (Takes i l oa up fl fa brought none) = over_time.Accepts i l fl up none
+  becomes-step e o (Hands i gone l a d ds fl fa falls none) = over_time.Gives i gone
+  becomes-step e o step = over_time.Rests
 
+  -- what becomes of it by an event
+  pub star-becomes : (e : EventOf O) → over_time.Becomes O w.star (outcome O w e).star
+  star-becomes e = becomes-step e (outcome O w e) (step_of O w e)
+
+module _ (O : Operations) (L : AreLawful O) (most : ℕ) (w : WorldOf O) (s : soundness.IsSound O most w) where
   -- each event leaves a sound star, which goes on from the one before
-  pub star-grows : (e : EventOf O) → stars.Grows O L most (O.t.content w.opening) w.star (outcome O w e).star
-  star-grows e = star-step e (outcome O w e) (step_of O w e)
+  pub star-grows : (e : EventOf O) → Grows O L most (O.t.content w.opening) w.star (outcome O w e).star
+  star-grows e = courses.becomes-grows O L most (O.t.content w.opening) w.star (outcome O w e).star (star-becomes O w e) s.star
 
   -- it keeps its order
   keeps-step : (e : EventOf O) (o : Outcome O) → StepOf O w e o → o.star.keeps ≡ true
@@ -136,14 +143,14 @@ module _ (O : Operations) (L : AreLawful O) (most : ℕ) (w : WorldOf O) (s : Is
   -- # Sites
 
   -- one that stays
-  stays : (e : EventOf O) (j : ℕ) (a c : AttachedOf O) → attached j w.sites ≡ Some a → attached j (outcome O w e).sites ≡ Some c → IsAttached O most (happens O w e) j c
+  stays : (e : EventOf O) (j : ℕ) (a c : AttachedOf O) → attached j w.sites ≡ Some a → attached j (outcome O w e).sites ≡ Some c → soundness.IsAttached O most (happens O w e) j c
   stays e j a c fa fc =
       let was = s.sites j a fa in
       let comes = comes-to O w j was.beside.given was.link a was.linked fa e c fc in
       record {
         link = comes.link;
         linked = comes.linked;
-        beside = rw comes.since (runs-beside O L most (O.t.content w.opening) (joined_at O j w.trace) j (moment_of O w j was.link a) (moment_of O (happens O w e) j comes.link c) comes.run was.beside);
+        beside = rw comes.since (runs-beside O L most (O.t.content w.opening) (joined_at O j w.trace) j (soundness.moment_of O w j was.link a) (soundness.moment_of O (happens O w e) j comes.link c) comes.run was.beside);
       }
 
   -- one that joins: its moment is that of its join
@@ -154,7 +161,7 @@ module _ (O : Operations) (L : AreLawful O) (most : ℕ) (w : WorldOf O) (s : Is
     pub number : j ≡ next
     pub since : joined_at O j v.trace ≡ length w.star.order
     pub linked : link_of j v.star.links ≡ Some (opened_link j)
-    pub moment : moment_of O v j (opened_link j) c ≡ moments.newcomer O w.star
+    pub moment : soundness.moment_of O v j (opened_link j) c ≡ moments.newcomer O w.star
 
   joins-next : Joins (with_outcome O w Join (join_outcome O w None)) next (new_site O w next)
   joins-next =
@@ -177,16 +184,16 @@ module _ (O : Operations) (L : AreLawful O) (most : ℕ) (w : WorldOf O) (s : Is
     | inr here ↦ joins-step e (outcome O w e) j c here.0 (let found = here.1 in cc) here.2 here.3
   ]
 
-  joined-beside : (v : WorldOf O) (j : ℕ) (c : AttachedOf O) → Joins v j c → moments.IsBeside O most (O.t.content w.opening) (joined_at O j v.trace) j (moment_of O v j (opened_link j) c)
+  joined-beside : (v : WorldOf O) (j : ℕ) (c : AttachedOf O) → Joins v j c → moments.IsBeside O most (O.t.content w.opening) (joined_at O j v.trace) j (soundness.moment_of O v j (opened_link j) c)
   joined-beside v j c to = subst (λ m. moments.IsBeside O most (O.t.content w.opening) (joined_at O j v.trace) j m) (sym to.moment) (rw (to.since, to.number) (beside-new O L most (O.t.content w.opening) w.star s.star))
 
-  sites-step : (e : EventOf O) (j : ℕ) (c : AttachedOf O) → attached j (outcome O w e).sites ≡ Some c → IsAttached O most (happens O w e) j c
-  sites-step e j c there = either (attached j w.sites) (λ o. IsAttached O most (happens O w e) j c)
+  sites-step : (e : EventOf O) (j : ℕ) (c : AttachedOf O) → attached j (outcome O w e).sites ≡ Some c → soundness.IsAttached O most (happens O w e) j c
+  sites-step e j c there = numbers.either (attached j w.sites) (λ o. soundness.IsAttached O most (happens O w e) j c)
       (λ none. (let to = joins-to e j c none there in record { link = opened_link j; linked = to.linked; beside = joined-beside (happens O w e) j c to }))
       (λ a fa. stays e j a c fa there)
 
   -- so the world is sound
-  pub sound-step : (e : EventOf O) → IsSound O most (happens O w e)
+  pub sound-step : (e : EventOf O) → soundness.IsSound O most (happens O w e)
   sound-step e =
       let grows = star-grows e in
       record {

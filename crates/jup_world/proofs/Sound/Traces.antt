@@ -1,11 +1,10 @@
 -- What an event adds to the trace.
 use Rattle.std.proofs.Common.{◌≡◌, ℕ, ◌+◌, ◌<◌, Bool, true, false, ◌||◌, List, [], ◌∷◌, ◌++◌, length, drop, refl, ap, sym, ◌∙◌, arith, append_assoc, append-nil, Some, None, take-append-drop}
-use Rattle.std.proofs.Math.Seq.{drop-append_seam}
 use Rattle.jup_world.specs.Prelude.{Msg, Operations, AreLawful, Up, UpOp, ups, LinkState, link_of, entry, Taken}
 use Rattle.jup_world.specs.Traces.{turns, own_edits, over_trace, edit_made, made, entry_taken, order_of, join_seen, joined_at, was_shown, shown_count, stray_seen, is_stray, first_of_site}
 use Rattle.jup_world.specs.Events.{Happened, Up as MoveUp}
 use Rattle.jup_world.specs.Worlds.{HappenedOf, attached, WorldOf, AttachedOf}
-use Rattle.jup_world.specs.Sound.{edits_sent, told_of, Standing, StandsBeside, IsSound}
+use Rattle.jup_world.specs.Sound as soundness
 use Rattle.jup_site.proofs.Numbers.{either}
 
 -- What one more event adds to what is read off a trace.
@@ -53,23 +52,23 @@ module _ (O : Operations) where
 
 module _ (O : Operations) (L : AreLawful O) where
   -- a site with its link is beside the star,
-  pub beside : (most : ℕ) (w : WorldOf O) → IsSound O most w → (i : ℕ) (l : LinkState O.Op) (a : AttachedOf O) → link_of i w.star.links ≡ Some l → attached i w.sites ≡ Some a → StandsBeside O most w i l a
+  pub beside : (most : ℕ) (w : WorldOf O) → soundness.IsSound O most w → (i : ℕ) (l : LinkState O.Op) (a : AttachedOf O) → link_of i w.star.links ≡ Some l → attached i w.sites ≡ Some a → soundness.StandsBeside O most w i l a
   beside most w s i l a fl fa =
       let here = s.sites i a fa in
       let same : l ≡ here.link = (let there = here.linked in cc) in
       rw same here.beside
 
   -- at its place of the order
-  pub standing : (most : ℕ) (w : WorldOf O) → IsSound O most w → (i : ℕ) (l : LinkState O.Op) (a : AttachedOf O) → link_of i w.star.links ≡ Some l → attached i w.sites ≡ Some a
-      → Standing O most (O.t.content w.opening) (turns i w.star.order) w.star.board (made i w.trace) (joined_at O i w.trace) (shown_count i w.trace) i l a
+  pub standing : (most : ℕ) (w : WorldOf O) → soundness.IsSound O most w → (i : ℕ) (l : LinkState O.Op) (a : AttachedOf O) → link_of i w.star.links ≡ Some l → attached i w.sites ≡ Some a
+      → soundness.Standing O most (O.t.content w.opening) (turns i w.star.order) w.star.board (made i w.trace) (joined_at O i w.trace) (shown_count i w.trace) i l a
   standing most w s i l a fl fa = (beside most w s i l a fl fa).stands
 
   -- and has a link
-  pub standing_of : (most : ℕ) (w : WorldOf O) → IsSound O most w → (i : ℕ) (a : AttachedOf O) → attached i w.sites ≡ Some a
-      → (l : LinkState O.Op) × Standing O most (O.t.content w.opening) (turns i w.star.order) w.star.board (made i w.trace) (joined_at O i w.trace) (shown_count i w.trace) i l a × (link_of i w.star.links ≡ Some l)
+  pub standing_of : (most : ℕ) (w : WorldOf O) → soundness.IsSound O most w → (i : ℕ) (a : AttachedOf O) → attached i w.sites ≡ Some a
+      → (l : LinkState O.Op) × soundness.Standing O most (O.t.content w.opening) (turns i w.star.order) w.star.board (made i w.trace) (joined_at O i w.trace) (shown_count i w.trace) i l a × (link_of i w.star.links ≡ Some l)
   standing_of most w s i a fa = let here = s.sites i a fa in (here.link, here.beside.stands, here.linked)
 
-  module _ (most : ℕ) (w : WorldOf O) (s : IsSound O most w) where
+  module _ (most : ℕ) (w : WorldOf O) (s : soundness.IsSound O most w) where
     -- a number that was not given has no site
     pub no_site : (i : ℕ) → w.star.given < i → attached i w.sites ≡ None
     no_site i above = either (attached i w.sites) (λ o. o ≡ None) (λ none. refl) (λ a fa. (let low = (s.sites i a fa).beside.given in absurd (omega arith)))
@@ -82,14 +81,14 @@ module _ (O : Operations) (L : AreLawful O) where
         ∙ ap (λ es. es ++ first_of_site i (drop (length (own_edits (turns i es))) (made i w.trace))) s.order_is
         ∙ ap (λ es. w.star.order ++ first_of_site i es) next_is
       where
-        st : Standing O most (O.t.content w.opening) (turns i w.star.order) w.star.board (made i w.trace) (joined_at O i w.trace) (shown_count i w.trace) i (s.sites i a fa).link a
+        st : soundness.Standing O most (O.t.content w.opening) (turns i w.star.order) w.star.board (made i w.trace) (joined_at O i w.trace) (shown_count i w.trace) i (s.sites i a fa).link a
         st = (s.sites i a fa).beside.stands
 
-        mine_is : made i w.trace ≡ own_edits (turns i w.star.order) ++ (O.t.edit_of m.op ∷ edits_sent O (ups us))
+        mine_is : made i w.trace ≡ own_edits (turns i w.star.order) ++ (O.t.edit_of m.op ∷ soundness.edits_sent O (ups us))
         mine_is =
             st.pair.all_made
-            ∙ ap (λ ts. own_edits ts ++ st.pair.raw) (take-append-drop (told_of O (joined_at O i w.trace) (shown_count i w.trace) (turns i w.star.order)) (turns i w.star.order))
-            ∙ ap (λ es. own_edits (turns i w.star.order) ++ es) (sym st.pair.raw_sent ∙ ap (λ r. edits_sent O (ups r)) rising)
+            ∙ ap (λ ts. own_edits ts ++ st.pair.raw) (take-append-drop (soundness.told_of O (joined_at O i w.trace) (shown_count i w.trace) (turns i w.star.order)) (turns i w.star.order))
+            ∙ ap (λ es. own_edits (turns i w.star.order) ++ es) (sym st.pair.raw_sent ∙ ap (λ r. soundness.edits_sent O (ups r)) rising)
 
-        next_is : drop (length (own_edits (turns i w.star.order))) (made i w.trace) ≡ O.t.edit_of m.op ∷ edits_sent O (ups us)
-        next_is = ap (drop (length (own_edits (turns i w.star.order)))) mine_is ∙ drop-append_seam (own_edits (turns i w.star.order)) (O.t.edit_of m.op ∷ edits_sent O (ups us))
+        next_is : drop (length (own_edits (turns i w.star.order))) (made i w.trace) ≡ O.t.edit_of m.op ∷ soundness.edits_sent O (ups us)
+        next_is = ap (drop (length (own_edits (turns i w.star.order)))) mine_is ∙ Rattle.std.proofs.Math.Seq.drop-append_seam (own_edits (turns i w.star.order)) (O.t.edit_of m.op ∷ soundness.edits_sent O (ups us))

@@ -1,6 +1,6 @@
-use Rattle.jup_honest.proofs.Backlogs.{causal_through, run-opens}
+use Rattle.jup_honest.proofs.Backlogs as backlogs
 use Rattle.jup_honest.proofs.Relies as relies
-use Rattle.jup_honest.proofs.Orders.{run-order, run-remains}
+use Rattle.jup_honest.proofs.Orders as orders
 use Rattle.jup_honest.proofs.Agree.{runs-order}
 use Rattle.jup_honest.proofs.promises.honest_sites_agree.Goals as goal
 
@@ -8,10 +8,10 @@ pub returns-clause-history : goal.returns-clause-history
 returns-clause-history c y = relies.run-history y
 
 pub returns-clause-causal : goal.returns-clause-causal
-returns-clause-causal c ms a causal reliable = causal_through ms a causal reliable
+returns-clause-causal c ms a causal reliable = backlogs.causal_through ms a causal reliable
 
 pub returns-clause-opens : goal.returns-clause-opens
-returns-clause-opens c y is low = run-opens y is low
+returns-clause-opens c y is low = backlogs.run-opens y is low
 
 pub returns-clause-shows : goal.returns-clause-shows
 returns-clause-shows c y is = relies.run-shows y is
@@ -29,10 +29,10 @@ pub returns-clause-backlog : goal.returns-clause-backlog
 returns-clause-backlog c y is l fl = relies.run-backlog y is l fl
 
 pub returns-clause-remains : goal.returns-clause-remains
-returns-clause-remains c y e is l fl = run-remains y e is l fl
+returns-clause-remains c y e is l fl = orders.run-remains y e is l fl
 
 pub returns-clause-order : goal.returns-clause-order
-returns-clause-order c y later is = run-order y later is
+returns-clause-order c y later is = orders.run-order y later is
 
 pub returns-clause-agree : goal.returns-clause-agree
 returns-clause-agree c y z one two both = relies.runs-agree y z one two both

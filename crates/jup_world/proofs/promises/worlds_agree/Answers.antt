@@ -6,7 +6,7 @@ use Rattle.jup_world.specs.Prelude.{board_batches, batch_laws, most_batches}
 use Rattle.jup_world.proofs.Sound.Runs as sound_runs
 use Rattle.jup_world.proofs.Sound.Tallies.{tallies}
 use Rattle.jup_world.proofs.Worlds as worlds
-use Rattle.jup_world.proofs.Orders.{run-follows, run_follows}
+use Rattle.jup_world.proofs.Orders as orders
 use Rattle.jup_world.proofs.promises.worlds_agree.Goals as goal
 
 pub returns-clause-kept : goal.returns-clause-kept
@@ -25,8 +25,8 @@ pub returns-clause-order : goal.returns-clause-order
 returns-clause-order c w reached events =
     let sound = (worlds.reached_sound w reached).sound in
     record {
-      star = (run-follows board_batches batch_laws events most_batches w sound).order;
-      sites = λ i a b before after. (run_follows board_batches batch_laws events most_batches w sound i a b before after).order;
+      star = (orders.run-follows board_batches batch_laws events most_batches w sound).order;
+      sites = λ i a b before after. (orders.run_follows board_batches batch_laws events most_batches w sound i a b before after).order;
     }
 
 pub returns-clause-sites : goal.returns-clause-sites

@@ -1,5 +1,4 @@
 use Rattle.std.proofs.Common.{refl, subst}
-use Rattle.std.proofs.lemmas.Bool.{or_parts}
 use Rattle.jup_world.specs.Happenings.{IsLaneWorld}
 use Rattle.jup_world.specs.Drains.{Settles}
 use Rattle.jup_world.proofs.Answers.{on_err}
@@ -14,7 +13,7 @@ returns-clause-moved c = rounds.settles_both c.in_ok-up.up c.in_ok-down.down _ _
 
 pub returns-clause-quiet : goal.returns-clause-quiet
 returns-clause-quiet c none =
-    let both = or_parts c.in_ok-up.up c.in_ok-down.down none in
+    let both = Rattle.std.proofs.lemmas.Bool.or_parts c.in_ok-up.up c.in_ok-down.down none in
     rounds.round_quiet c.args.self.now c.move_all.new.self c.move_all-2.new.self (subst IsLaneWorld c.self.view_is c.self.invariant).world
     (subst (λ b. Settles b c.args.self.now c.move_all.new.self) both.0 c.in_ok-up.ensures.moved)
     (subst (λ b. Settles b c.move_all.new.self c.move_all-2.new.self) both.1 c.in_ok-down.ensures.moved)

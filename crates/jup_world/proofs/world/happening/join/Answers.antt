@@ -6,25 +6,25 @@ use Rattle.jup_lane.proofs.Lanes.{carried-new}
 use Rattle.jup_world.specs.Lanes.{LaneSite}
 use Rattle.jup_world.specs.Insides.{lane_of, bare_attached}
 use Rattle.jup_world.specs.Boards.{BoardAttached}
-use Rattle.jup_world.proofs.Answers.{join_joined, join_refused}
+use Rattle.jup_world.proofs.Answers as answers
 use Rattle.jup_world.proofs.Happenings as happenings
 use Rattle.jup_world.proofs.Lanes.LaneEvents.{none_read_at, end_read}
 use Rattle.jup_world.proofs.world.happening.join.Goals as goal
 
 pub returns-in-Err-clause-plays : goal.returns-in-Err-clause-plays
 returns-in-Err-clause-plays c =
-    let call = join_refused c.args.star.now c.join.new.self c.in-Err.fault c.in_ok-star_refusal-in-Err.ensures.other c.in-Err.ensures in
+    let call = answers.join_refused c.args.star.now c.join.new.self c.in-Err.fault c.in_ok-star_refusal-in-Err.ensures.other c.in-Err.ensures in
     happenings.plays_no_join c.args.star.now c.join.new.self _ _ _ (call.0 ∙ ap Some (sym c.in_ok-star_refusal-in-Err.ensures.same)) call.1 (ap (map bare_attached) c.reserve.ensures.items)
 
 pub unwrap-site-requires : goal.unwrap-site-requires
 unwrap-site-requires c =
     let ready = c.requires.numbered in
-    let call = join_joined c.args.star.now c.join.new.self c.in-Ok.joined c.in-Ok.ensures in
+    let call = answers.join_joined c.args.star.now c.join.new.self c.in-Ok.joined c.in-Ok.ensures in
     happenings.site_opens c.open.result c.args.star.now c.in-Ok.joined c.open.ensures.refusal call.1 call.0 ready.positive ready.limited (ready.named (c.args.star.now.given + 1) (omega arith))
 
 pub returns-clause-plays : goal.returns-clause-plays
 returns-clause-plays c =
-    let call = join_joined c.args.star.now c.join.new.self c.in-Ok.joined c.in-Ok.ensures in
+    let call = answers.join_joined c.args.star.now c.join.new.self c.in-Ok.joined c.in-Ok.ensures in
     let items = ap (map bare_attached) c.push_reserved.ensures.items ∙ map-append bare_attached c.reserve.new.self.items (c.new.result ∷ []) in
     let opened = rw c.unwrap-site.ensures at c.open.ensures.opened in
     let site = c.new.ensures.messages ∙ ap (λ (t : BoardSite). happenings.with_nothing t) (opened ∙ happenings.site_is c.args.star.now c.in-Ok.joined call.1) in

@@ -5,6 +5,8 @@ use Rattle.jup_window.specs.Laws.Entries.{only_site-held}
 use Rattle.jup_star.specs.Stars as star_stars
 use Rattle.jup_star.proofs.Stars.{board_small}
 use Rattle.jup_site.proofs.Stars as stars
+use Rattle.jup_site.specs.Courses as over_time
+use Rattle.jup_site.proofs.Courses.{becomes-grows}
 use Rattle.jup_site.specs.Moments.{IsCalled}
 use Rattle.jup_site.specs.Prelude.{highest_limit, new_star, link_of, join_fault, up_fault, most_batches, BoardStar}
 
@@ -12,36 +14,36 @@ use Rattle.jup_site.specs.Prelude.{highest_limit, new_star, link_of, join_fault,
 abbrev pub CalledStar : Windows → BoardStar → Type 0
 CalledStar board s = IsCalled board_batches most_batches (content board) s
 
-abbrev pub CallGrows : Windows → BoardStar → BoardStar → Type 0
-CallGrows board s t = stars.Grows board_batches batch_laws most_batches (content board) s t
-
--- any call
-pub call-grows : (board : Windows) (c : Call) (s : BoardStar) → CalledStar board s → CallGrows board s (star_stars.star_after c s)
+-- what becomes of it by a call
+pub call-becomes : (c : Call) (s : BoardStar) → over_time.Becomes board_batches s (star_stars.star_after c s)
 unfolding star_stars.star_after
-call-grows board Join s h = go (join_fault s)
+call-becomes Join s = go (join_fault s)
   where
-    go : (o : Option StarFault) → CallGrows board s (star_stars.after_join s o)
-    go None = stars.called-joined board_batches batch_laws most_batches (content board) s h
-    go (Some e) = stars.called-still board_batches batch_laws most_batches (content board) s h
-call-grows board (Take i u) s h = go (link_of i s.links) refl
+    go : (o : Option StarFault) → over_time.Becomes board_batches s (star_stars.after_join s o)
+    go None = over_time.Admits
+    go (Some e) = over_time.Rests
+call-becomes (Take i u) s = go (link_of i s.links) refl
   where
-    at : (l : star_stars.BoardLink) → link_of i s.links ≡ Some l → (f : Option StarFault) → up_fault board_batches s l u ≡ f → CallGrows board s (star_stars.after_take i u s (Some l) f)
-    at l fl None none = stars.called-taken board_batches batch_laws most_batches (content board) s h i l fl u none
-    at l fl (Some e) is = stars.called-left board_batches batch_laws most_batches (content board) s h i
+    at : (l : star_stars.BoardLink) → link_of i s.links ≡ Some l → (f : Option StarFault) → up_fault board_batches s l u ≡ f → over_time.Becomes board_batches s (star_stars.after_take i u s (Some l) f)
+    at l fl None none = over_time.Accepts i l fl u none
+    at l fl (Some e) is = over_time.Drops i
 
-    go : (o : Option star_stars.BoardLink) → link_of i s.links ≡ o → CallGrows board s (star_stars.after_take i u s o (star_stars.take_fault board_batches s u o))
-    go None e = stars.called-still board_batches batch_laws most_batches (content board) s h
+    go : (o : Option star_stars.BoardLink) → link_of i s.links ≡ o → over_time.Becomes board_batches s (star_stars.after_take i u s o (star_stars.take_fault board_batches s u o))
+    go None e = over_time.Rests
     go (Some l) e = at l e (up_fault board_batches s l u) refl
-call-grows board (Fetch i m) s h = go (link_of i s.links)
+call-becomes (Fetch i m) s = go (link_of i s.links)
   where
-    go : (o : Option star_stars.BoardLink) → CallGrows board s (star_stars.after_fetch i m s o)
-    go None = stars.called-still board_batches batch_laws most_batches (content board) s h
-    go (Some l) = stars.called-fetched board_batches batch_laws most_batches (content board) s h i m
-call-grows board (Leave i) s h = go (link_of i s.links)
+    go : (o : Option star_stars.BoardLink) → over_time.Becomes board_batches s (star_stars.after_fetch i m s o)
+    go None = over_time.Rests
+    go (Some l) = over_time.Gives i m
+call-becomes (Leave i) s = go (link_of i s.links)
   where
-    go : (o : Option star_stars.BoardLink) → CallGrows board s (star_stars.after_leave i s o)
-    go None = stars.called-still board_batches batch_laws most_batches (content board) s h
-    go (Some l) = stars.called-left board_batches batch_laws most_batches (content board) s h i
+    go : (o : Option star_stars.BoardLink) → over_time.Becomes board_batches s (star_stars.after_leave i s o)
+    go None = over_time.Rests
+    go (Some l) = over_time.Drops i
+
+pub call-grows : (board : Windows) (c : Call) (s : BoardStar) → CalledStar board s → stars.Grows board_batches batch_laws most_batches (content board) s (star_stars.star_after c s)
+call-grows board c s h = becomes-grows board_batches batch_laws most_batches (content board) s (star_stars.star_after c s) (call-becomes c s) h
 
 -- any history
 pub called-through : (board : Windows) (es : List HubEvent) (s : BoardStar) → CalledStar board s → CalledStar board (star_through s es)

@@ -22,6 +22,7 @@ ghost use Rattle.jup_honest.specs.Sites.{Step, Called, Connection, through, IsRe
 /// - `order`: from one moment to any later one, the star and the site keep the order of their items.
 /// - `orders`: at every moment two such sites show in one order the items that both show, with their links or
 ///   without, whatever is on its way.
+/// - `copies`: what one of them shows, and what the other shows at any later moment, are in one order too.
 /// - `agree`: two such sites hold equal boards once nothing is on its way to them or from them.
 ///
 /// Two clauses are of the premises. `history`: star and messages are those of the history. `causal`: that the
@@ -47,6 +48,8 @@ pub fn honest_sites_agree()
     ensures agree { (run other : SiteRun) → IsHonest run → IsHonest other → AreDrained run other
         → (now run).site.board ≡ (now other).site.board }
     ensures orders { (run other : SiteRun) → IsHonest run → IsHonest other → AreOfOneHub run other → ShowOneOrder run other }
+    ensures copies { (run other : SiteRun) (later : List Step) → IsHonest (longer run later) → IsHonest other
+        → AreOfOneHub (longer run later) other → ShowOneOrder run other }
 {}
 
 /// There is such a run: the site and a stranger set one toggle at the same time, and the site sends a ping. In

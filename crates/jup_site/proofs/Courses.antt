@@ -2,7 +2,7 @@
 use Rattle.std.proofs.Common.{◌≡◌, inl, inr, ℕ, zero, suc, ◌+◌, ◌≤◌, ◌<◌, Bool, true, false, cond, List, [], ◌∷◌, ◌++◌, length, nat_eq, nat_le, refl, ap, sym, ◌∙◌, subst, None, arith, append-nil, append_assoc, leb-false, length-append, add-zero, leb-true}
 use Rattle.jup_site.specs.Prelude.{Operations, AreLawful, Entry, Up, UpOp, UpAck, UpPing, StarOf, link_of, taken, entry, board_batches, BoardBatch, content, most_batches}
 use Rattle.jup_site.specs.Sound.{IsSoundStar}
-use Rattle.jup_site.specs.Moments.{Moment, newcomer, IsCalled, IsBeside}
+use Rattle.jup_site.specs.Moments.{Moment, newcomer, told_count, IsCalled, IsBeside}
 use Rattle.jup_site.specs.Courses.{Becomes, Rests, Admits, Drops, Gives, Accepts, Course, Member, number, since, BoardCourse, BoardMember, IsOpened, StarShows, IsTakenUnlessFull, SiteHolds, HasLink, Remains, KeepsOrder, AreAtOnce, ShowOneOrder}
 use Rattle.jup_site.proofs.Follows as following
 use Rattle.jup_site.proofs.Stars as stars
@@ -14,7 +14,7 @@ use Rattle.jup_batch.specs.Boards.{batch_laws}
 use Rattle.jup_star.proofs.Stars.{board_small}
 use Rattle.jup_site.proofs.Views as views
 use Rattle.jup_site.proofs.PastBoards.{order_symmetric}
-use Rattle.jup_site.proofs.Copies.{sites-agree}
+use Rattle.jup_site.proofs.Copies as copies
 
 -- one step further
 plus : (n k : ℕ) → n + suc k ≡ suc (n + k)
@@ -177,25 +177,56 @@ module _ (O : Operations) (L : AreLawful O) (symmetric : (x y : O.State) → O.t
             (let was = before s.joins k low in
             (was.0, past.was-new O L symmetric most first (c.star s.joins) (star-called s.joins) (star_when k s.joins) was.1.sound was.1.follows was.1.more was.1.grows))
 
+    -- what the next moment brings
+    adds_next : (n : ℕ) → past.Adds O L symmetric most first at i (λ k. star_when k (suc (suc (s.joins + n)))) (s.moment n).star (s.moment (suc n)).star
+    adds_next n k high low = when-new k (suc (s.joins + n)) (omega (arith, high, ap (λ (s : StarOf O). length s.order) (s.at_star n))) ∙ sym (s.at_star (suc n) ∙ ap (λ t. c.star (suc t)) (plus s.joins n))
+
     pub member-remembers : (n : ℕ) → Remembers (suc (s.joins + n)) (s.moment n)
     member-remembers zero = subst (λ t. Remembers (suc t) (s.moment 0)) (sym (add-zero s.joins)) (subst (Remembers (suc s.joins)) (sym s.starts) joins-remembering)
     member-remembers (suc n) = subst (λ t. Remembers (suc t) (s.moment (suc n))) (sym (plus s.joins n)) (next (remembers-on (suc (s.joins + n)) (s.moment n) (s.at_star n) (member-remembers n)))
       where
         next : Remembers (suc (suc (s.joins + n))) (s.moment n) → Remembers (suc (suc (s.joins + n))) (s.moment (suc n))
         next now = elim (s.goes n) [
-          | inl move ↦ past.moves-recall O L symmetric most first at i (λ k. star_when k (suc (suc (s.joins + n)))) (s.moment n) (s.moment (suc n)) (member-beside n) move
-              (λ k high low. when-new k (suc (s.joins + n)) (omega (arith, high, ap (λ (s : StarOf O). length s.order) (s.at_star n)))
-              ∙ sym (s.at_star (suc n) ∙ ap (λ t. c.star (suc t)) (plus s.joins n))) now
+          | inl move ↦ past.moves-recall O L symmetric most first at i (λ k. star_when k (suc (suc (s.joins + n)))) (s.moment n) (s.moment (suc n)) (member-beside n) move (adds_next n) now
           | inr same ↦ subst (Remembers (suc (suc (s.joins + n)))) (sym same) now
         ]
 
+    -- # What it once showed
+
+    -- a past board, by the stars up to a time
+    abbrev Copied : ℕ → ℕ → Moment O → Type 0
+    Copied n t m = copies.IsCopy O L symmetric most first (λ k. star_when k t) at i (told_count O at i (s.moment n)) (s.moment n).at.site.board m
+
+    copied-on : (n t : ℕ) (m : Moment O) → m.star ≡ c.star t → Copied n t m → Copied n (suc t) m
+    copied-on n t m is r = record {
+      shown = r.shown;
+      within = r.within;
+      meets = λ k low. subst (copies.Meets O L symmetric most first i (told_count O at i (s.moment n)) (s.moment n).at.site.board)
+          (sym (when-stays k t (omega (arith, low, ap (λ (s : StarOf O). length s.order) is)))) (r.meets k low);
+    }
+
+    pub member-copied : (n later : ℕ) → Copied n (suc (s.joins + (n + later))) (s.moment (n + later))
+    member-copied n zero = subst (λ t. Copied n (suc (s.joins + t)) (s.moment t)) (sym (add-zero n))
+        (copies.copy-now O L symmetric most first (λ k. star_when k (suc (s.joins + n))) at i (s.moment n) (member-beside n) (member-remembers n))
+    member-copied n (suc d) = subst (λ t. Copied n (suc (s.joins + t)) (s.moment t)) (sym (plus n d)) (subst (λ t. Copied n (suc t) (s.moment (suc (n + d)))) (sym (plus s.joins (n + d))) (next (n + d) (member-copied n d)))
+      where
+        next : (t : ℕ) → Copied n (suc (s.joins + t)) (s.moment t) → Copied n (suc (suc (s.joins + t))) (s.moment (suc t))
+        next t was =
+            let now = copied-on n (suc (s.joins + t)) (s.moment t) (s.at_star t) was in
+            elim (s.goes t) [
+              | inl move ↦ copies.moves-copy O L symmetric most first (λ k. star_when k (suc (suc (s.joins + t)))) at i (told_count O at i (s.moment n)) (s.moment n).at.site.board (s.moment t) (s.moment (suc t)) (member-beside t) move
+                  (adds_next t) (remembers-on (suc (s.joins + t)) (s.moment t) (s.at_star t) (member-remembers t)) now
+              | inr same ↦ subst (Copied n (suc (suc (s.joins + t)))) (sym same) now
+            ]
+
   -- # Two sites
 
-  module _ (a b : Member O c) (n k : ℕ) (time : a.joins + n ≡ b.joins + k) (apart : nat_eq (number O a) (number O b) ≡ false) where
-    pub members-agree : O.t.keeps_order (a.moment n).at.site.board (b.moment k).at.site.board
-    members-agree =
-        sites-agree O L symmetric most first (since O a) (since O b) (number O a) (number O b) apart (λ x. star_when x (suc (a.joins + n))) (a.moment n) (b.moment k)
-        (b.at_star k ∙ ap (λ t. c.star (suc t)) (sym time) ∙ sym (a.at_star n)) (member-beside a n) (member-beside b k) (member-remembers a n)
+  module _ (a b : Member O c) (n later k : ℕ) (time : a.joins + (n + later) ≡ b.joins + k) (apart : nat_eq (number O a) (number O b) ≡ false) where
+    -- what one shows, and what the other shows at that time or later
+    pub members-copied : O.t.keeps_order (a.moment n).at.site.board (b.moment k).at.site.board
+    members-copied =
+        copies.copy-agrees O L symmetric most first (since O a) (since O b) (number O a) (number O b) apart (λ x. star_when x (suc (a.joins + (n + later)))) (told_count O (since O a) (number O a) (a.moment n))
+        (a.moment n).at.site.board (a.moment (n + later)) (b.moment k) (b.at_star k ∙ ap (λ t. c.star (suc t)) (sym time) ∙ sym (a.at_star (n + later))) (member-copied a n later) (member-remembers a (n + later)) (member-beside b k)
         (subst (λ t. past.Recalls O L symmetric most first (since O b) (number O b) (λ x. star_when x (suc t)) (b.moment k)) (sym time) (member-remembers b k))
 
 module _ (c : BoardCourse) (is : IsOpened c) where
@@ -254,5 +285,8 @@ module _ (c : BoardCourse) (is : IsOpened c) where
         let later = member-later board_batches batch_laws order_symmetric most_batches c opened s k n in
         record { star = later.star.order; site = later.order; gone = member-gone board_batches batch_laws order_symmetric most_batches c opened s k n }
 
+  pub members-later : (one other : BoardMember c) (n later k : ℕ) → AreAtOnce one other (n + later) k → ShowOneOrder (one.moment n) (other.moment k)
+  members-later one other n later k at = members-copied board_batches batch_laws order_symmetric most_batches c opened one other n later k at.time at.apart
+
   pub members-orders : (one other : BoardMember c) (n k : ℕ) → AreAtOnce one other n k → ShowOneOrder (one.moment n) (other.moment k)
-  members-orders one other n k at = members-agree board_batches batch_laws order_symmetric most_batches c opened one other n k at.time at.apart
+  members-orders one other n k at = members-later one other n 0 k (record { time = (let same = at.time in omega arith); apart = at.apart })

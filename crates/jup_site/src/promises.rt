@@ -18,6 +18,7 @@ ghost use Rattle.jup_site.specs.Courses.{BoardCourse, BoardMember, IsOpened, Sta
 ///   that is gone stays gone.
 /// - `orders`: at every moment two sites of one star show in one order the items that both show, with their
 ///   links or without, whatever is on its way.
+/// - `copies`: what one of them shows, and what the other shows at any later moment, are in one order too.
 ///
 /// It does nothing: its contract is the theorem.
 pub fn sites_agree()
@@ -29,5 +30,7 @@ pub fn sites_agree()
     ensures order { (c : BoardCourse) → IsOpened c → (s : BoardMember c) (n k : ℕ)
         → KeepsOrder (number board_batches s) (s.moment n) (s.moment (n + k)) }
     ensures orders { (c : BoardCourse) → IsOpened c → (one other : BoardMember c) (n k : ℕ) → AreAtOnce one other n k
+        → ShowOneOrder (one.moment n) (other.moment k) }
+    ensures copies { (c : BoardCourse) → IsOpened c → (one other : BoardMember c) (n later k : ℕ) → AreAtOnce one other (n + later) k
         → ShowOneOrder (one.moment n) (other.moment k) }
 {}

@@ -114,7 +114,7 @@ module _ (O : Operations) (L : AreLawful O) (symmetric : (x y : O.State) → O.t
               is,
               past_stars.was_now O L symmetric most (happens O w e) (next w s e),
               meeting.meets-new O L symmetric most (O.t.content w.opening) i count x z.0 (happens O w e).star z.3 (omega (arith, low, z.1)) (omega (arith, above, is, z.1))
-              (past_stars.was_star_happens O L symmetric most w s z.0 z.2 e).was.follows (past_boards.was_order O L symmetric most (happens O w e) i x shown_on),
+                  (past_stars.was_star_happens O L symmetric most w s z.0 z.2 e).was.follows (past_boards.was_order O L symmetric most (happens O w e) i x shown_on),
             )
 
     -- and so does a fetch

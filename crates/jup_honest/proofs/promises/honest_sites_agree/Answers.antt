@@ -1,7 +1,7 @@
 use Rattle.jup_honest.proofs.Backlogs as backlogs
 use Rattle.jup_honest.proofs.Relies as relies
 use Rattle.jup_honest.proofs.Orders as orders
-use Rattle.jup_honest.proofs.Agree.{runs-order}
+use Rattle.jup_honest.proofs.Agree.{runs-order, runs-copies}
 use Rattle.jup_honest.proofs.promises.honest_sites_agree.Goals as goal
 
 pub returns-clause-history : goal.returns-clause-history
@@ -39,3 +39,6 @@ returns-clause-agree c y z one two both = relies.runs-agree y z one two both
 
 pub returns-clause-orders : goal.returns-clause-orders
 returns-clause-orders c y z one two both = runs-order y z one two both
+
+pub returns-clause-copies : goal.returns-clause-copies
+returns-clause-copies c y z later one two both = runs-copies y z later one two both

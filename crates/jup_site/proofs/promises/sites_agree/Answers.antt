@@ -15,3 +15,6 @@ returns-clause-order f c is s n k = courses.member-order c is s n k
 
 pub returns-clause-orders : goal.returns-clause-orders
 returns-clause-orders f c is one other n k at = courses.members-orders c is one other n k at
+
+pub returns-clause-copies : goal.returns-clause-copies
+returns-clause-copies f c is one other n later k at = courses.members-later c is one other n later k at

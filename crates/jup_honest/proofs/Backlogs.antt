@@ -35,11 +35,11 @@ pub both_begin : {A : Type 0} → (all ys xs : List A) → sites.Begins all ys �
 both_begin all ys xs b c short = two_begin ys xs b.0 c.0 short (sym b.1 ∙ c.1)
 
 -- each list of a connection only grows
-record Grows (a b : sites.Connection) : Type 0 where
-  sent : sites.Begins b.sent a.sent
-  taken : sites.Begins b.taken a.taken
-  fetched : sites.Begins b.fetched a.fetched
-  handed : sites.Begins b.handed a.handed
+pub record Grows (a b : sites.Connection) : Type 0 where
+  pub sent : sites.Begins b.sent a.sent
+  pub taken : sites.Begins b.taken a.taken
+  pub fetched : sites.Begins b.fetched a.fetched
+  pub handed : sites.Begins b.handed a.handed
 
 taken_grows : (i : ℕ) (c : honest.Call) (us : List (honest.Up honest.BoardBatch)) → sites.Begins (sites.taken_with i c us) us
 taken_grows i honest.Join us = begins_self us
@@ -72,7 +72,7 @@ grows_after (sites.Called e) a = record {
   handed = begins_self a.handed;
 }
 
-grows_through : (ms : List sites.Step) (a : sites.Connection) → Grows a (sites.through ms a)
+pub grows_through : (ms : List sites.Step) (a : sites.Connection) → Grows a (sites.through ms a)
 grows_through [] a = record { sent = begins_self a.sent; taken = begins_self a.taken; fetched = begins_self a.fetched; handed = begins_self a.handed }
 grows_through (m ∷ ms) a =
     let one = grows_after m a in

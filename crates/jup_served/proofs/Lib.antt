@@ -1,4 +1,4 @@
 mod Calls
 mod Hubs
-mod Runs
-mod Witness
+pub mod Runs
+pub mod Witness

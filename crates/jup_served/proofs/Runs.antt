@@ -2,24 +2,25 @@
 use Rattle.std.proofs.Common.{◌≡◌, ℕ, ◌≤◌, Bool, true, false, List, [], ◌∷◌, ◌++◌, refl, sym, ap, ◌∙◌, arith, nat_le, ◌&&◌, ◌⊎◌, inl, inr, ◌<◌, Ok, IsTrue, subst, append_assoc, bytes_eq, map, Err, append-nil}
 use Rattle.std.proofs.lemmas.Bool.{leb-false, cond-true}
 use Rattle.jup_window.specs.declared.kinds.WidgetOp.TheVariants as widget
+use Rattle.jup_window.specs.Widgets.{relabels_no_text}
 use Rattle.jup_window.specs.Boards as board
 use Rattle.jup_window.specs.Widgets as one
 use Rattle.jup_served.specs.Prelude.{Joined, HubEvent, ClientState, Bye, Gone}
 use Rattle.jup_served.specs.Prelude as served
-use Rattle.jup_star.specs.Sites as star_sites
+use Rattle.jup_star.specs.Sites.{edit_reply, site_edited, deliver_reply, site_delivered}
 use Rattle.jup_wire.specs.declared.line.Line.TheVariants as line
 use Rattle.jup_wire.specs.Kinds.{IsBody}
 use Rattle.jup_layout.specs.Drafts.{widget_lines, window_lines, board_lines}
 use Rattle.jup_hub.specs.Histories.{entry, star_through, IsLegal, calls_by, AllTallied, is_among, tally, tallies}
 use Rattle.jup_honest.specs.Sites as honest
-use Rattle.jup_honest.proofs.Steps as honest_steps
-use Rattle.jup_honest.proofs.Backlogs as backlogs
+use Rattle.jup_honest.proofs.Steps.{CalledStar, called-opened, legal-parts}
+use Rattle.jup_honest.proofs.Backlogs.{begins_chain, both_begin, causal_through}
 use Rattle.jup_honest.proofs.Runs.{join_gives}
 use Rattle.jup_honest.proofs.Relies.{run-history}
-use Rattle.jup_socket.specs.Sockets as sockets
+use Rattle.jup_socket.specs.Sockets.{IsLast, greeting, messages_down, written_down}
 use Rattle.jup_socket.proofs.Sockets.{all_first, up_reliable, down_reliable, edit_step, deliver_step}
-use Rattle.jup_session.specs.Sessions as session_sessions
-use Rattle.jup_served.specs.Sessions.{Ended, ServesSite, answer_of, writer_of, fetches_for, IsOwnedBy, IsServedRun, IsOneOf, IsSessionHub, IsClientStep, IsClientRun}
+use Rattle.jup_session.specs.Sessions.{IsCallFor, IsFetchFor, welcome_lines}
+use Rattle.jup_served.specs.Sessions.{Ended, ServesSite, answer_of, writer_of, fetches_for, IsOwnedBy, HasWritten, HasReceived, IsServing, IsServedRun, IsOneOf, IsSessionHub, IsClientStep, IsClientRun}
 use Rattle.jup_served.proofs.Calls as calls
 use Rattle.jup_served.proofs.Hubs.{IsJoin, early_join, early_fetches, owned}
 use Rattle.jup_socket.specs.Prelude.{NoMemory}
@@ -40,7 +41,7 @@ and_true true true p q = refl
 and_true true false p q = absurd (cc)
 and_true false b p q = absurd (cc)
 
-body_spelled : (w : WidgetOp) → IsBody w → one.relabels_no_text w ≡ true
+body_spelled : (w : WidgetOp) → IsBody w → relabels_no_text w ≡ true
 body_spelled (widget.Text op) is = is.0
 body_spelled (widget.List op) is = refl
 body_spelled other is = refl
@@ -81,7 +82,7 @@ bare_lines (w ∷ ws) =
 
 -- The run of a site that a session serves is honest.
 
-ending_is_last : (e : served.Ending) → sockets.IsLast (served.last_line e)
+ending_is_last : (e : served.Ending) → IsLast (served.last_line e)
 ending_is_last Bye = tt
 ending_is_last Gone = tt
 ending_is_last (served.Fault n) = tt
@@ -91,13 +92,13 @@ ending_is_last (served.Fault n) = tt
 head_of : {A : Type 0} (x y : A) (xs ys : List A) → x ∷ xs ≡ y ∷ ys → x ≡ y
 head_of x y xs ys e = cc
 
-take_is : (site : ℕ) (c : served.Call) → calls.IsTakeFor site c → session_sessions.IsCallFor site c
+take_is : (site : ℕ) (c : served.Call) → calls.IsTakeFor site c → IsCallFor site c
 take_is site served.Join h = absurd h
 take_is site (served.Take i up) h = h
 take_is site (served.Fetch i max) h = absurd h
 take_is site (served.Leave i) h = absurd h
 
-fetch_is : (site : ℕ) (c : served.Call) → calls.IsFetchOf site c → session_sessions.IsCallFor site c
+fetch_is : (site : ℕ) (c : served.Call) → calls.IsFetchOf site c → IsCallFor site c
 fetch_is site served.Join h = absurd h
 fetch_is site (served.Take i up) h = absurd h
 fetch_is site (served.Fetch i max) h = h
@@ -114,7 +115,7 @@ takes_no_fetch : (i j : ℕ) (es : List HubEvent) → served.AllByRecursion (λ 
 takes_no_fetch i j [] all = tt
 takes_no_fetch i j (e ∷ es) all = ((λ fetch. not_both j i e.call all.0 fetch), takes_no_fetch i j es all.1)
 
-fetches_no_take : (i j : ℕ) (es : List HubEvent) → served.AllByRecursion (λ (e : HubEvent). session_sessions.IsFetchFor j e.call) es → served.AllByRecursion (λ (e : HubEvent). calls.IsTakeFor i e.call → ⊥) es
+fetches_no_take : (i j : ℕ) (es : List HubEvent) → served.AllByRecursion (λ (e : HubEvent). IsFetchFor j e.call) es → served.AllByRecursion (λ (e : HubEvent). calls.IsTakeFor i e.call → ⊥) es
 fetches_no_take i j [] all = tt
 fetches_no_take i j (e ∷ es) all = ((λ take. not_both i j e.call take (calls.fetch_of j e.call all.0)), fetches_no_take i j es all.1)
 
@@ -130,12 +131,12 @@ causal_last : (steps : List honest.Step) (c : honest.Connection) → honest.IsCa
 causal_last [] c causal = causal
 causal_last (step ∷ steps) c causal = causal_last steps (honest.after step c) causal.1
 
-module _ (run : honest.SiteRun) (log : List HubEvent) (s : Ended) (is : IsServedRun run log s) where
+module _ (run : honest.SiteRun) (log : List HubEvent) (s : Ended) (is : IsServing run log s) (up : HasWritten run (served.bytes_read s.exact)) (down : HasReceived run (served.bytes_written s.exact)) where
   serves : ServesSite s
   serves = is.serves
 
   -- the site
-  site_is : run.answer.site ≡ is.serves.served.site
+  pub site_is : run.answer.site ≡ is.serves.served.site
   site_is = ap (λ (j : Joined). j.site) is.moment.answer ∙ is.serves.served.welcomed.site_is
 
   -- all that its session took, and all that it fetched
@@ -146,70 +147,70 @@ module _ (run : honest.SiteRun) (log : List HubEvent) (s : Ended) (is : IsServed
   all_fetched = honest.fetches_of is.serves.served.site (fetches_for is.serves)
 
   -- the client said the messages that the session took
-  sent_first : honest.Begins ((honest.now run).sent ++ is.up.more) all_taken
+  sent_first : honest.Begins ((honest.now run).sent ++ up.more) all_taken
   sent_first =
-      let u = is.up in
       let h = calls.half s is.serves in
       let hello = is.serves.served.welcomed.hello in
       let first : served.HasRead hello.bytes (line.Hello ∷ is.serves.served.greeted.waiting) is.serves.served.greeted.progress =
       hello.goes_on [] [] (subst (λ w. served.HasRead [] w is.serves.start.progress) (sym is.serves.fresh.waiting) is.serves.fresh.read) in
-      up_reliable (record (honest.now run) { sent = (honest.now run).sent ++ u.more; taken = all_taken }) (record {
-        bye = u.bye;
-        spelled = u.spelled;
-        read = hello.bytes ++ h.first;
-        left = h.rest ++ u.left;
-        bytes = append_assoc hello.bytes h.first (h.rest ++ u.left)
-            ∙ ap (λ bs. hello.bytes ++ bs) (sym (append_assoc h.first h.rest u.left))
-            ∙ ap (λ bs. hello.bytes ++ (bs ++ u.left)) (sym h.bytes_are)
-            ∙ sym (append_assoc hello.bytes (served.bytes_heard is.serves.served.halves.hears) u.left)
-            ∙ ap (λ l. served.bytes_of l ++ u.left) (sym is.serves.is) ∙ u.bytes;
-        lines = h.lines;
-        waiting = h.waiting;
-        progress = h.progress;
-        reads = h.goes_on hello.bytes (line.Hello ∷ []) first;
-        saids = h.saids;
-        held = h.held;
-        said = h.said;
-        later = h.later;
-        takes = h.takes;
+      up_reliable (record (honest.now run) { sent = (honest.now run).sent ++ up.more; taken = all_taken }) (record {
+        bye = up.bye;
+        spelled = up.spelled;
+        brought = record {
+          read = hello.bytes ++ h.first;
+          lines = h.lines;
+          waiting = h.waiting;
+          progress = h.progress;
+          reads = h.goes_on hello.bytes (line.Hello ∷ []) first;
+          saids = h.saids;
+          held = h.held;
+          said = h.said;
+          later = h.later;
+          takes = h.takes;
+        };
+        left = h.rest ++ up.left;
+        bytes = append_assoc hello.bytes h.first (h.rest ++ up.left)
+            ∙ ap (λ bs. hello.bytes ++ bs) (sym (append_assoc h.first h.rest up.left))
+            ∙ ap (λ bs. hello.bytes ++ (bs ++ up.left)) (sym h.bytes_are)
+            ∙ sym (append_assoc hello.bytes (served.bytes_heard is.serves.served.halves.hears) up.left)
+            ∙ ap (λ l. served.bytes_of l ++ up.left) (sym is.serves.is) ∙ up.bytes;
       })
 
   -- the lines of the session
-  all_lines_are : s.exact.lines ≡ sockets.written_down run.answer all_fetched (served.last_line s.ending ∷ [])
+  all_lines_are : s.exact.lines ≡ written_down run.answer all_fetched (served.last_line s.ending ∷ [])
   all_lines_are =
       is.serves.served.lines_are ∙ ap (λ ls. ls ++ is.serves.served.later) is.serves.served.welcomed.lines_are
-      ∙ ap (λ ls. session_sessions.welcome_lines is.serves.served.welcomed.joined ++ ls) is.serves.served.halves.lines_are
-      ∙ ap (λ ls. session_sessions.welcome_lines is.serves.served.welcomed.joined ++ (ls ++ served.last_line s.ending ∷ []))
+      ∙ ap (λ ls. welcome_lines is.serves.served.welcomed.joined ++ ls) is.serves.served.halves.lines_are
+      ∙ ap (λ ls. welcome_lines is.serves.served.welcomed.joined ++ (ls ++ served.last_line s.ending ∷ []))
       (calls.fetches_are is.serves.served.site (fetches_for is.serves) is.serves.served.halves.alone)
-      ∙ ap (λ ls. sockets.greeting is.serves.served.welcomed.joined.site is.serves.served.welcomed.joined.limit ls ++ (sockets.messages_down all_fetched ++ served.last_line s.ending ∷ []))
+      ∙ ap (λ ls. greeting is.serves.served.welcomed.joined.site is.serves.served.welcomed.joined.limit ls ++ (messages_down all_fetched ++ served.last_line s.ending ∷ []))
       (sym (bare_lines is.serves.served.welcomed.joined.board))
-      ∙ ap (λ (j : Joined). sockets.greeting j.site j.limit (board_lines j.board) ++ (sockets.messages_down all_fetched ++ served.last_line s.ending ∷ [])) (sym is.moment.answer)
+      ∙ ap (λ (j : Joined). greeting j.site j.limit (board_lines j.board) ++ (messages_down all_fetched ++ served.last_line s.ending ∷ [])) (sym is.moment.answer)
 
   -- and the site received the first of the messages that were fetched
-  handed_first : honest.Begins all_fetched (honest.now run).handed
+  pub handed_first : honest.Begins all_fetched (honest.now run).handed
   handed_first =
-      let d = is.down in
       let spelled = subst (served.AllByRecursion served.HasSpelling) all_lines_are is.spelled in
       down_reliable run.answer (record (honest.now run) { fetched = all_fetched }) (record {
         last = served.last_line s.ending ∷ [];
         ends = (ending_is_last s.ending, tt);
         spelled = spelled;
-        received = d.received;
-        left = d.left ++ s.exact.wrote.1;
-        bytes = sym (append_assoc d.received.read d.left s.exact.wrote.1) ∙ ap (λ bs. bs ++ s.exact.wrote.1) d.bytes ∙ sym s.exact.wrote.2
-            ∙ ap (served.flat_map served.line_bytes) all_lines_are ∙ lines_spelled (sockets.written_down run.answer all_fetched (served.last_line s.ending ∷ [])) spelled;
+        received = down.received;
+        left = down.left ++ s.exact.wrote.1;
+        bytes = sym (append_assoc down.received.read down.left s.exact.wrote.1) ∙ ap (λ bs. bs ++ s.exact.wrote.1) down.bytes ∙ sym s.exact.wrote.2
+            ∙ ap (served.flat_map served.line_bytes) all_lines_are ∙ lines_spelled (written_down run.answer all_fetched (served.last_line s.ending ∷ [])) spelled;
       })
 
   -- # The history
 
   legal : IsLegal (honest.opening run) (honest.calls run)
-  legal = (honest_steps.legal-parts (honest.opening run) (honest.calls run) is.moment.first.0 (subst (λ es. IsLegal (honest.opening run) es) is.moment.first.1 (subst (λ o. IsLegal o log) is.moment.opened is.moment.meets.legal))).0
+  legal = (legal-parts (honest.opening run) (honest.calls run) is.moment.first.0 (subst (λ es. IsLegal (honest.opening run) es) is.moment.first.1 (subst (λ o. IsLegal o log) is.moment.opened is.moment.meets.legal))).0
 
-  opened : honest_steps.CalledStar run.board (honest.opening run)
-  opened = honest_steps.called-opened run.keeps run.board run.limit is.opens is.limited
+  opened : CalledStar run.board (honest.opening run)
+  opened = called-opened run.keeps run.board run.limit is.opens is.limited
 
   parts : IsLegal (honest.opening run) run.before × IsLegal (star_through (honest.opening run) run.before) (entry run.by served.Join (served.JoinedReply (Ok run.answer)) ∷ honest.history run.steps)
-  parts = honest_steps.legal-parts (honest.opening run) run.before (entry run.by served.Join (served.JoinedReply (Ok run.answer)) ∷ honest.history run.steps) legal
+  parts = legal-parts (honest.opening run) run.before (entry run.by served.Join (served.JoinedReply (Ok run.answer)) ∷ honest.history run.steps) legal
 
   -- before the site joined its number was not given
   not_given : (star_through (honest.opening run) run.before).given < run.answer.site
@@ -258,7 +259,7 @@ module _ (run : honest.SiteRun) (log : List HubEvent) (s : Ended) (is : IsServed
           | inr kept ↦ inr (of_writer e kept)
         ]
 
-    either : (Is : served.Call → Type 0) → ((c : served.Call) → Is c → session_sessions.IsCallFor run.answer.site c) → (es : List HubEvent) → IsOwnedBy s run.answer.site es
+    either : (Is : served.Call → Type 0) → ((c : served.Call) → Is c → IsCallFor run.answer.site c) → (es : List HubEvent) → IsOwnedBy s run.answer.site es
         → served.AllByRecursion (λ (e : HubEvent). Is e.call → (e.by ≡ s.back.number) ⊎ (e.by ≡ writer_of is.serves)) es
     either Is asks [] all = tt
     either Is asks (e ∷ es) all = ((λ call. one_of_both e (all.0 (asks e.call call))), either Is asks es all.1)
@@ -315,7 +316,7 @@ module _ (run : honest.SiteRun) (log : List HubEvent) (s : Ended) (is : IsServed
           ∙ sym (run-history run).taken),
     )
 
-    fetched_first : honest.Begins all_fetched (honest.now run).fetched
+    pub fetched_first : honest.Begins all_fetched (honest.now run).fetched
     fetched_first = (
       honest.fetches_of run.answer.site write_first.0,
       ap (λ i. honest.fetches_of i (fetches_for is.serves)) (sym site_is)
@@ -328,28 +329,36 @@ module _ (run : honest.SiteRun) (log : List HubEvent) (s : Ended) (is : IsServed
           ∙ sym (run-history run).fetched),
     )
 
-    last : honest.IsCausal (honest.now run)
-    last = causal_last run.steps (honest.start run) is.causal
+    pub taken_is_sent : honest.Begins ((honest.now run).sent ++ up.more) (honest.now run).taken
+    taken_is_sent = begins_chain ((honest.now run).sent ++ up.more) all_taken (honest.now run).taken sent_first taken_first
 
-    reliable : honest.IsReliable (honest.now run)
-    reliable = record {
-      up = backlogs.both_begin ((honest.now run).sent ++ is.up.more) (honest.now run).sent (honest.now run).taken (is.up.more, refl)
-          (backlogs.begins_chain ((honest.now run).sent ++ is.up.more) all_taken (honest.now run).taken sent_first taken_first) last.up;
-      down = backlogs.both_begin all_fetched (honest.now run).fetched (honest.now run).handed fetched_first handed_first last.down;
-    }
-
-    pub served_honest : honest.IsHonest run
-    served_honest = record { opens = is.opens; limited = is.limited; legal = legal; reliable = backlogs.causal_through run.steps (honest.start run) is.causal reliable }
+    pub served_honest : honest.IsCausalThrough run.steps (honest.start run) → honest.IsHonest run
+    served_honest causal =
+        let last = causal_last run.steps (honest.start run) causal in
+        record {
+          opens = is.opens;
+          limited = is.limited;
+          legal = legal;
+          reliable = causal_through run.steps (honest.start run) causal (record {
+            up = both_begin ((honest.now run).sent ++ up.more) (honest.now run).sent (honest.now run).taken (up.more, refl) taken_is_sent last.up;
+            down = both_begin all_fetched (honest.now run).fetched (honest.now run).handed fetched_first handed_first last.down;
+          });
+        }
 
 -- Of a hub that sessions alone call, the run of each site that one of them serves is honest.
+
+-- nobody but its session calls for the site
+pub hub_owned : (keeps : Bool) (board : served.Windows) (limit : ℕ) (sessions : List Ended) (log : List HubEvent) → IsSessionHub keeps board limit sessions log → (run : honest.SiteRun) (s : Ended) → IsOneOf s sessions → IsServing run log s
+    → IsOwnedBy s run.answer.site (honest.calls run)
+hub_owned keeps board limit sessions log hub run s one is =
+    subst (λ i. IsOwnedBy s i (honest.calls run)) (ap (λ (j : Joined). j.site) (sym is.moment.answer))
+    (all_first (λ e. IsCallFor (answer_of is.serves).site e.call → IsTrue (is_among e.by (tallies s.back))) (honest.calls run) is.moment.first.0
+    (subst (IsOwnedBy s (answer_of is.serves).site) is.moment.first.1 (owned keeps board limit sessions log hub s one is.serves)))
 
 pub hub_honest : (keeps : Bool) (board : served.Windows) (limit : ℕ) (sessions : List Ended) (log : List HubEvent) → IsSessionHub keeps board limit sessions log → (run : honest.SiteRun) (s : Ended) → IsOneOf s sessions → IsServedRun run log s
     → honest.IsHonest run
 hub_honest keeps board limit sessions log hub run s one is =
-    served_honest run log s is
-    (subst (λ i. IsOwnedBy s i (honest.calls run)) (ap (λ (j : Joined). j.site) (sym is.moment.answer))
-    (all_first (λ e. session_sessions.IsCallFor (answer_of is.serves).site e.call → IsTrue (is_among e.by (tallies s.back))) (honest.calls run) is.moment.first.0
-    (subst (IsOwnedBy s (answer_of is.serves).site) is.moment.first.1 (owned keeps board limit sessions log hub s one is.serves))))
+    served_honest run log s is.serving is.up is.down (hub_owned keeps board limit sessions log hub run s one is.serving) is.causal
 
 -- What a client of this product shows and says is what the run of its site has.
 
@@ -364,20 +373,20 @@ shows_after (honest.Edit commands) c old new said first shows (answer, answers, 
     elim (edit_step commands old new (Ok answer) answers) [
       | inl ended ↦ absurd (let none : Ok answer ≡ Err NoMemory = ended.0 in cc)
       | inr made ↦ record {
-        site = made.0 ∙ ap (star_sites.site_edited commands) shows.site;
+        site = made.0 ∙ ap (site_edited commands) shows.site;
         said = ap (λ ss. ss ++ first) shows.said
-            ∙ ap (λ ss. map (λ up. served.SaysUp up) c.sent ++ ss) (says ∙ made.1 ∙ ap (λ s. map (λ up. served.SaysUp up) (honest.sent_as_made (star_sites.edit_reply commands s))) shows.site)
-            ∙ sym (served.map-append (λ up. served.SaysUp up) c.sent (honest.sent_as_made (star_sites.edit_reply commands c.site)));
+            ∙ ap (λ ss. map (λ up. served.SaysUp up) c.sent ++ ss) (says ∙ made.1 ∙ ap (λ s. map (λ up. served.SaysUp up) (honest.sent_as_made (edit_reply commands s))) shows.site)
+            ∙ sym (served.map-append (λ up. served.SaysUp up) c.sent (honest.sent_as_made (edit_reply commands c.site)));
       }
     ]
 shows_after (honest.Deliver down) c old new said first shows (heard, delivers, says) =
     elim (deliver_step down old new (Ok heard) delivers) [
       | inl ended ↦ absurd (let none : Ok heard ≡ Err NoMemory = ended.0 in cc)
       | inr made ↦ record {
-        site = made.0 ∙ ap (star_sites.site_delivered down) shows.site;
+        site = made.0 ∙ ap (site_delivered down) shows.site;
         said = ap (λ ss. ss ++ first) shows.said
-            ∙ ap (λ ss. map (λ up. served.SaysUp up) c.sent ++ ss) (says ∙ made.1 ∙ ap (λ s. map (λ up. served.SaysUp up) (honest.sent_as_handed (star_sites.deliver_reply down s))) shows.site)
-            ∙ sym (served.map-append (λ up. served.SaysUp up) c.sent (honest.sent_as_handed (star_sites.deliver_reply down c.site)));
+            ∙ ap (λ ss. map (λ up. served.SaysUp up) c.sent ++ ss) (says ∙ made.1 ∙ ap (λ s. map (λ up. served.SaysUp up) (honest.sent_as_handed (deliver_reply down s))) shows.site)
+            ∙ sym (served.map-append (λ up. served.SaysUp up) c.sent (honest.sent_as_handed (deliver_reply down c.site)));
       }
     ]
 shows_after (honest.Ping k) c old new said first shows (answer, answers, says, ping) = record {

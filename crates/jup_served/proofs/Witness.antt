@@ -7,15 +7,15 @@ use Rattle.jup_star.specs.Sites.{BoardSite, site_edited}
 use Rattle.jup_wire.specs.declared.line.Line.TheVariants.{Bye}
 use Rattle.jup_wire.specs.Streams.{IsPart}
 use Rattle.jup_gather.specs.Gathering.{IsPiece}
-use Rattle.jup_hub.specs.Histories as histories
+use Rattle.jup_hub.specs.Histories.{Meets, tally, after_split, having_called, with_call}
 use Rattle.jup_honest.specs.Sites.{Step, Edit, Deliver, Ping, Called, IsCausalThrough, SiteRun, now, start, AreDrained}
 use Rattle.jup_client.specs.declared.client.Told.TheVariants as told
 use Rattle.jup_stream.specs.Saying.{said_piece}
 use Rattle.jup_rules.specs.Sessions.{says_edit, counted}
-use Rattle.jup_socket.specs.Sockets.{said_lines, all_said}
+use Rattle.jup_socket.specs.Sockets.{said_lines, all_said, written_down}
 use Rattle.jup_socket.proofs.Sockets.{mapped_lines}
-use Rattle.jup_session.specs.Sessions as sessions
-use Rattle.jup_served.specs.Sessions as served_sessions
+use Rattle.jup_session.specs.Sessions.{lines_brought, AreFetchesFor, LastLeavesNothing, welcome_lines, AreTakesOf, Stopped, Heard, AreCallsFor, HasLeft}
+use Rattle.jup_served.specs.Sessions.{Ended, ServesSite, IsClientRun, IsServedRun, IsSessionHub}
 use Rattle.jup_served.proofs.Runs.{lines_spelled}
 use Rattle.jup_session.specs.Prelude.{BoardStar, Hello, line_bytes, board_lines, StreamFault, HasHeard, Keeper, HandsOn, Stops}
 use Rattle.jup_rules.specs.Prelude.{UpOp, DownOp, DownPong}
@@ -24,7 +24,7 @@ use Rattle.jup_star.specs.Prelude.{Server, Toggle as ToggleWidget}
 use Rattle.jup_batch.specs.Prelude.{OnToggle as ToggleOp, SetValue as SetCommand}
 use Rattle.jup_window.specs.Prelude.{SetTo, NoSetOp as SetNothing}
 use Rattle.jup_stream.specs.declared.faults.Stop.TheVariants.{End, Fault}
-use Rattle.jup_window.specs.declared.kinds.Setting.TheVariants as setting
+use Rattle.jup_window.specs.declared.kinds.Setting.TheVariants.{Toggle as ToggleSetting}
 
 -- A session whose client says some messages, all of which are taken, and then closes its way up.
 
@@ -96,34 +96,34 @@ module _ (p : Plan) where
   join = entry p.number played.Join (played.JoinedReply (Ok answer))
 
   abbrev pub behind : played.View
-  behind = histories.having_called p.before played.Join (played.JoinedReply (Ok answer)) given
+  behind = having_called p.before played.Join (played.JoinedReply (Ok answer)) given
 
   abbrev pub leave : played.HubEvent
   leave = entry (0 ∷ p.number) (played.Leave p.joined.site) p.left
 
   abbrev pub read : played.View
-  read = record (histories.after_split behind) { made = behind.made ++ p.takes }
+  read = record (after_split behind) { made = behind.made ++ p.takes }
 
   abbrev pub back : played.View
-  back = record read { kept = histories.tally (0 ∷ p.number) (p.fetches ++ leave ∷ []) ∷ [] }
+  back = record read { kept = tally (0 ∷ p.number) (p.fetches ++ leave ∷ []) ∷ [] }
 
   abbrev pub saids : List played.Said
   saids = map (λ up. played.SaysUp up) p.ups
 
   abbrev pub lines : List played.Line
-  lines = sessions.welcome_lines p.joined ++ (sessions.lines_brought p.fetches ++ played.last_line played.Gone ∷ [])
+  lines = welcome_lines p.joined ++ (lines_brought p.fetches ++ played.last_line played.Gone ∷ [])
 
   -- what has to hold of it
   pub record IsPlain : Type 0 where
-    pub meets : histories.Meets behind (histories.with_call p.before given played.Join (played.JoinedReply (Ok answer)))
+    pub meets : Meets behind (with_call p.before given played.Join (played.JoinedReply (Ok answer)))
     pub spelled : played.AllByRecursion played.HasSpelling (said_lines saids)
     pub pieces : played.AllByRecursion IsPiece (map said_piece saids)
-    pub takes : sessions.AreTakesOf p.joined.site saids p.takes
-    pub fetches : sessions.AreFetchesFor p.joined.site p.fetches
-    pub last : sessions.LastLeavesNothing p.fetches
-    pub reading : sessions.AreCallsFor p.joined.site p.takes
-    pub writing : sessions.AreCallsFor p.joined.site (p.fetches ++ leave ∷ [])
-    pub leaves : sessions.HasLeft (p.fetches ++ leave ∷ [])
+    pub takes : AreTakesOf p.joined.site saids p.takes
+    pub fetches : AreFetchesFor p.joined.site p.fetches
+    pub last : LastLeavesNothing p.fetches
+    pub reading : AreCallsFor p.joined.site p.takes
+    pub writing : AreCallsFor p.joined.site (p.fetches ++ leave ∷ [])
+    pub leaves : HasLeft (p.fetches ++ leave ∷ [])
 
   module _ (is : IsPlain) where
     abbrev first_bytes : List ℕ
@@ -138,7 +138,7 @@ module _ (p : Plan) where
     abbrev keeper : Keeper
     keeper = (Some [], counted (count_by says_edit saids))
 
-    abbrev hears : sessions.Heard p.joined.site (at_bytes (later_bytes ++ [])) (histories.after_split behind) (at_bytes []) read played.Gone None
+    abbrev hears : Heard p.joined.site (at_bytes (later_bytes ++ [])) (after_split behind) (at_bytes []) read played.Gone None
     hears = inl (record {
       before = at_bytes [];
       pass = read;
@@ -154,7 +154,7 @@ module _ (p : Plan) where
         kept = refl;
         takes = is.takes;
       };
-      over = sessions.Stopped End at_end refl (record { early = λ e part. absurd (part refl); gone = λ e f. refl; fault = λ fault e. absurd (no_fault fault e) }) refl;
+      over = Stopped End at_end refl (record { early = λ e part. absurd (part refl); gone = λ e f. refl; fault = λ fault e. absurd (no_fault fault e) }) refl;
     })
 
     abbrev served : played.IsServed first_source given back played.Gone false played.all_done lines
@@ -162,8 +162,8 @@ module _ (p : Plan) where
       site = p.joined.site;
       greeted = at_bytes (later_bytes ++ []);
       behind = behind;
-      first = sessions.welcome_lines p.joined;
-      later = sessions.lines_brought p.fetches ++ played.last_line played.Gone ∷ [];
+      first = welcome_lines p.joined;
+      later = lines_brought p.fetches ++ played.last_line played.Gone ∷ [];
       welcomed = record {
         hello = hands_lines (Hello ∷ []) (later_bytes ++ []) (tt, tt);
         joined = p.joined;
@@ -196,7 +196,7 @@ module _ (p : Plan) where
     abbrev fresh : played.IsFresh (Some (first_bytes ++ (later_bytes ++ []))) first_source
     fresh = record { known = refl; read = record { spelled = tt; rest = (refl, no_part) }; waiting = refl; reads = refl }
 
-    abbrev pub plain : served_sessions.Ended
+    abbrev pub plain : Ended
     plain = record {
       from = Some (first_bytes ++ (later_bytes ++ []));
       old = Some [];
@@ -208,7 +208,7 @@ module _ (p : Plan) where
       undone = played.all_done;
       calls = record {
         calls = join ∷ p.takes;
-        others = histories.tally (0 ∷ p.number) (p.fetches ++ leave ∷ []) ∷ [];
+        others = tally (0 ∷ p.number) (p.fetches ++ leave ∷ []) ∷ [];
         number = refl;
         made = refl;
         kept = refl;
@@ -221,7 +221,7 @@ module _ (p : Plan) where
       };
     }
 
-    abbrev pub plain_serves : served_sessions.ServesSite plain
+    abbrev pub plain_serves : ServesSite plain
     plain_serves = record { start = first_source; fresh = fresh; served = served; is = refl }
 
     -- its client wrote all that it read
@@ -251,9 +251,9 @@ abbrev message : ℕ → ℕ → played.BoardBatch → Msg played.BoardBatch
 message mine heard op = record { mine = mine; heard = heard; op = op }
 
 abbrev command : Bool → Commands
-command on = SetCommand 1 1 (setting.Toggle on) ∷ []
+command on = SetCommand 1 1 (ToggleSetting on) ∷ []
 
-abbrev joined : ℕ → played.Joined
+abbrev pub joined : ℕ → played.Joined
 joined i = record { site = i; limit = 9; board = board }
 
 abbrev star : BoardStar
@@ -282,13 +282,13 @@ edit_one = entry one (played.Take 1 (UpOp (message 0 0 (switch true)))) (played.
 abbrev ping_one : played.HubEvent
 ping_one = entry one (played.Take 1 (played.UpPing 7)) (played.Taken (Ok None))
 
-abbrev downs_one : List (played.Down played.BoardBatch)
+abbrev pub downs_one : List (played.Down played.BoardBatch)
 downs_one = DownOp (message 0 0 (switch false)) ∷ DownPong 7 ∷ []
 
 abbrev fetch_one : played.HubEvent
 fetch_one = entry (0 ∷ one) (played.Fetch 1 64) (played.Fetched (Ok downs_one))
 
-abbrev downs_two : List (played.Down played.BoardBatch)
+abbrev pub downs_two : List (played.Down played.BoardBatch)
 downs_two = DownOp (message 0 1 (switch true)) ∷ []
 
 abbrev fetch_two : played.HubEvent
@@ -333,13 +333,19 @@ opens = record { distinct = ((tt, tt), tt); unsigned = refl; short = ((tt, tt), 
 
 -- # The sessions
 
+abbrev pub ups_one : List (played.Up played.BoardBatch)
+ups_one = UpOp (message 0 0 (switch true)) ∷ played.UpPing 7 ∷ []
+
+abbrev pub ups_two : List (played.Up played.BoardBatch)
+ups_two = UpOp (message 0 0 (switch false)) ∷ []
+
 abbrev plan_one : Plan
 plan_one = record {
   opening = star;
   number = one;
   joined = joined 1;
   before = [];
-  ups = UpOp (message 0 0 (switch true)) ∷ played.UpPing 7 ∷ [];
+  ups = ups_one;
   takes = edit_one ∷ ping_one ∷ [];
   fetches = fetch_one ∷ [];
   left = played.Left (Ok tt);
@@ -351,7 +357,7 @@ plan_two = record {
   number = two;
   joined = joined 2;
   before = join_one ∷ [];
-  ups = UpOp (message 0 0 (switch false)) ∷ [];
+  ups = ups_two;
   takes = edit_two ∷ [];
   fetches = fetch_two ∷ [];
   left = played.Left (Ok tt);
@@ -385,10 +391,10 @@ is_plain_two = record {
   leaves = inr (inl tt);
 }
 
-pub session_one : served_sessions.Ended
+pub session_one : Ended
 session_one = plain plan_one is_plain_one
 
-pub session_two : served_sessions.Ended
+pub session_two : Ended
 session_two = plain plan_two is_plain_two
 
 -- their lines
@@ -398,7 +404,24 @@ spelled_one = ((lit< tt, lit< tt), (lit< tt, ((lit< tt, tt), (tt, ((lit< tt, (li
 spelled_two : played.AllByRecursion played.HasSpelling (lines plan_two)
 spelled_two = ((lit< tt, lit< tt), (lit< tt, ((lit< tt, tt), (tt, ((lit< tt, (lit< tt, (lit≤ tt, lit≤ tt))), ((lit< tt, (lit< tt, tt)), (tt, tt)))))))
 
-pub hub : served_sessions.IsSessionHub false board 9 (session_one ∷ session_two ∷ []) log
+-- and their bytes
+pub read_one : played.bytes_read session_one.exact ++ [] ≡ played.flat_map played.spelling (Hello ∷ said_lines (all_said (ups_one ++ []) false))
+unfolding session_one
+read_one = wrote_all plan_one is_plain_one
+
+pub read_two : played.bytes_read session_two.exact ++ [] ≡ played.flat_map played.spelling (Hello ∷ said_lines (all_said (ups_two ++ []) false))
+unfolding session_two
+read_two = wrote_all plan_two is_plain_two
+
+pub written_one : played.bytes_written session_one.exact ≡ played.flat_map played.spelling (written_down (joined 1) downs_one (Bye ∷ []))
+unfolding session_one
+written_one = lines_spelled (lines plan_one) spelled_one
+
+pub written_two : played.bytes_written session_two.exact ≡ played.flat_map played.spelling (written_down (joined 2) downs_two (Bye ∷ []))
+unfolding session_two
+written_two = lines_spelled (lines plan_two) spelled_two
+
+pub hub : IsSessionHub false board 9 (session_one ∷ session_two ∷ []) log
 unfolding session_one session_two
 hub = record {
   opens = opens;
@@ -420,21 +443,23 @@ causal_two : IsCausalThrough steps_two (start run_two)
 unfolding star_after
 causal_two = (record { up = lit≤ tt; down = lit≤ tt }, (record { up = lit≤ tt; down = lit≤ tt }, (record { up = lit≤ tt; down = lit≤ tt }, (record { up = lit≤ tt; down = lit≤ tt }, (record { up = lit≤ tt; down = lit≤ tt }, (record { up = lit≤ tt; down = lit≤ tt }, (record { up = lit≤ tt; down = lit≤ tt }, record { up = lit≤ tt; down = lit≤ tt })))))))
 
-pub served_one : served_sessions.IsServedRun run_one log session_one
+pub served_one : IsServedRun run_one log session_one
 unfolding session_one star_after
 served_one = record {
-  serves = plain_serves plan_one is_plain_one;
-  moment = record {
-    new = (refl, refl);
-    opened = refl;
-    meets = record { legal = legal; begins = ((join_two ∷ later, refl), tt); tallied = (refl, (refl, tt)); apart = (((λ e. cc), tt), (tt, tt)) };
-    first = (leave_one ∷ leave_two ∷ [], refl);
-    answer = refl;
-    stays = ([], refl);
+  serving = record {
+    serves = plain_serves plan_one is_plain_one;
+    moment = record {
+      new = (refl, refl);
+      opened = refl;
+      meets = record { legal = legal; begins = ((join_two ∷ later, refl), tt); tallied = (refl, (refl, tt)); apart = (((λ e. cc), tt), (tt, tt)) };
+      first = (leave_one ∷ leave_two ∷ [], refl);
+      answer = refl;
+      stays = ([], refl);
+    };
+    opens = opens;
+    limited = lit≤ tt;
+    spelled = spelled_one;
   };
-  opens = opens;
-  limited = lit≤ tt;
-  spelled = spelled_one;
   up = record { more = []; bye = false; spelled = (tt, is_plain_one.spelled); left = []; bytes = wrote_all plan_one is_plain_one };
   down = record {
     received = record {
@@ -443,7 +468,7 @@ served_one = record {
       limit = 9;
       body = board_lines board;
       is_body = (tt, (tt, tt));
-      lines = sessions.lines_brought (fetch_one ∷ []);
+      lines = lines_brought (fetch_one ∷ []);
       waiting = Bye ∷ [];
       progress = clean;
       reads = read_all plan_one is_plain_one spelled_one;
@@ -459,21 +484,23 @@ served_one = record {
   causal = causal_one;
 }
 
-pub served_two : served_sessions.IsServedRun run_two log session_two
+pub served_two : IsServedRun run_two log session_two
 unfolding session_two star_after
 served_two = record {
-  serves = plain_serves plan_two is_plain_two;
-  moment = record {
-    new = (refl, refl);
-    opened = refl;
-    meets = record { legal = legal; begins = ((later, refl), tt); tallied = (refl, (refl, tt)); apart = (((λ e. cc), tt), (tt, tt)) };
-    first = (leave_one ∷ leave_two ∷ [], refl);
-    answer = refl;
-    stays = ([], refl);
+  serving = record {
+    serves = plain_serves plan_two is_plain_two;
+    moment = record {
+      new = (refl, refl);
+      opened = refl;
+      meets = record { legal = legal; begins = ((later, refl), tt); tallied = (refl, (refl, tt)); apart = (((λ e. cc), tt), (tt, tt)) };
+      first = (leave_one ∷ leave_two ∷ [], refl);
+      answer = refl;
+      stays = ([], refl);
+    };
+    opens = opens;
+    limited = lit≤ tt;
+    spelled = spelled_two;
   };
-  opens = opens;
-  limited = lit≤ tt;
-  spelled = spelled_two;
   up = record { more = []; bye = false; spelled = (tt, is_plain_two.spelled); left = []; bytes = wrote_all plan_two is_plain_two };
   down = record {
     received = record {
@@ -482,7 +509,7 @@ served_two = record {
       limit = 9;
       body = board_lines board;
       is_body = (tt, (tt, tt));
-      lines = sessions.lines_brought (fetch_two ∷ []);
+      lines = lines_brought (fetch_two ∷ []);
       waiting = Bye ∷ [];
       progress = clean;
       reads = read_all plan_two is_plain_two spelled_two;
@@ -551,6 +578,6 @@ heard_last = record { said = None; is_synced = false; shown = Some (switch true)
 abbrev pub said_two : List played.Said
 said_two = mine ∷ []
 
-pub walk_two : served_sessions.IsClientRun steps_two client_first client_last said_two
+pub walk_two : IsClientRun steps_two client_first client_last said_two
 unfolding star_after
 walk_two = (client_made, mine ∷ [], [], (answer_made, (Ok (record { edit = edit_of (switch false); up = UpOp (message 0 0 (switch false)) }), (refl, refl), refl, refl, refl), refl), (client_made, [], [], (refl, refl), (client_made, [], [], (refl, refl), (client_made, [], [], (refl, refl), (client_made, [], [], (refl, refl), (client_made, [], [], (refl, refl), (client_last, [], [], (heard_last, (Ok (record { owed = None; shown = Some (switch true) }), (refl, refl), record { operations = refl; board = refl }, refl, refl), refl), (refl, refl), refl), refl), refl), refl), refl), refl), refl)

@@ -79,14 +79,17 @@ pub record HasReceived (run : SiteRun) (written : List ℕ) : Type 0 where
   pub left : List ℕ
   pub bytes : received.read ++ left ≡ written
 
--- A session serves the site of this run, over the board and the limit that its hub was opened with. Its client is of this product, and no message
--- came before it was sent. Each line that the session is to write has a spelling
-pub record IsServedRun (run : SiteRun) (log : List HubEvent) (s : Ended) : Type 0 where
+-- A session serves the site of this run, over the board and the limit that its hub was opened with. Each line that the session is to write has a spelling
+pub record IsServing (run : SiteRun) (log : List HubEvent) (s : Ended) : Type 0 where
   pub serves : ServesSite s
   pub moment : IsMoment run log s serves
   pub opens : IsOpening run.board
   pub limited : run.limit ≤ highest_limit
   pub spelled : AllByRecursion HasSpelling s.exact.lines
+
+-- Its client is of this product, and no message came before it was sent
+pub record IsServedRun (run : SiteRun) (log : List HubEvent) (s : Ended) : Type 0 where
+  pub serving : IsServing run log s
   pub up : HasWritten run (bytes_read s.exact)
   pub down : HasReceived run (bytes_written s.exact)
   pub causal : IsCausalThrough run.steps (start run)

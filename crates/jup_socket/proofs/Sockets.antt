@@ -156,12 +156,13 @@ ups_first (s ∷ ss) (t ∷ ts) bye rest e =
 pub up_reliable : (a : sites.Connection) → UpSocket a → sites.Begins a.sent a.taken
 up_reliable a u =
     let saying : List Said = all_said a.sent u.bye in
-    let way = on_the_way u.read u.left (line.Hello ∷ (u.lines ++ u.waiting)) (line.Hello ∷ said_lines saying) u.progress u.spelled u.reads u.bytes in
-    let all : said_lines saying ≡ u.lines ++ (u.waiting ++ way.1.0) = tail_of line.Hello line.Hello _ _ way.1.1 ∙ append_assoc u.lines u.waiting way.1.0 in
-    let first = gathered_first u.lines (u.waiting ++ way.1.0) (map said_piece u.saids) (map said_piece saying) u.held u.said (saids_are_pieces saying u.spelled.1) (sym (mapped_lines said_piece saying) ∙ all) in
-    ups_first a.sent a.taken u.bye (map said_piece u.later ++ first.0)
-    (first.1 ∙ ap (λ ss. map said_piece ss ++ first.0) u.takes ∙ ap (λ ps. ps ++ first.0) (map-append said_piece (map (λ up. SaysUp up) a.taken) u.later)
-    ∙ append_assoc (map said_piece (map (λ up. SaysUp up) a.taken)) (map said_piece u.later) first.0)
+    let b = u.brought in
+    let way = on_the_way b.read u.left (line.Hello ∷ (b.lines ++ b.waiting)) (line.Hello ∷ said_lines saying) b.progress u.spelled b.reads u.bytes in
+    let all : said_lines saying ≡ b.lines ++ (b.waiting ++ way.1.0) = tail_of line.Hello line.Hello _ _ way.1.1 ∙ append_assoc b.lines b.waiting way.1.0 in
+    let first = gathered_first b.lines (b.waiting ++ way.1.0) (map said_piece b.saids) (map said_piece saying) b.held b.said (saids_are_pieces saying u.spelled.1) (sym (mapped_lines said_piece saying) ∙ all) in
+    ups_first a.sent a.taken u.bye (map said_piece b.later ++ first.0)
+    (first.1 ∙ ap (λ ss. map said_piece ss ++ first.0) b.takes ∙ ap (λ ps. ps ++ first.0) (map-append said_piece (map (λ up. SaysUp up) a.taken) b.later)
+    ∙ append_assoc (map said_piece (map (λ up. SaysUp up) a.taken)) (map said_piece b.later) first.0)
 
 -- # Down
 

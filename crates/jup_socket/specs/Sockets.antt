@@ -30,15 +30,10 @@ all_said ups bye = map (λ up. SaysUp up) ups ++ farewell bye
 abbrev pub said_lines : List Said → List Line
 said_lines saids = flat_map (λ said. piece_lines (said_piece said)) saids
 
--- The bytes that the client wrote are those of `hello`, of its messages and perhaps of a bye. The session read the first of them:
--- these are whole lines, some of which may wait, and then a part of one. By the others the client said all that, and the first of
+-- What a session read: `hello`, then whole lines, some of which may wait, and then a part of one. By the others the client said all that, and the first of
 -- these messages were brought to the star
-pub record UpSocket (c : Connection) : Type 0 where
-  pub bye : Bool
-  pub spelled : AllByRecursion HasSpelling (Hello ∷ said_lines (all_said c.sent bye))
+pub record Brought (taken : List (Up BoardBatch)) : Type 0 where
   pub read : List ℕ
-  pub left : List ℕ
-  pub bytes : read ++ left ≡ flat_map spelling (Hello ∷ said_lines (all_said c.sent bye))
   pub lines : List Line
   pub waiting : List Line
   pub progress : Progress
@@ -47,7 +42,15 @@ pub record UpSocket (c : Connection) : Type 0 where
   pub held : Option (List Line)
   pub said : HasSaid lines saids held
   pub later : List Said
-  pub takes : saids ≡ map (λ up. SaysUp up) c.taken ++ later
+  pub takes : saids ≡ map (λ up. SaysUp up) taken ++ later
+
+-- The bytes that the client wrote are those of `hello`, of its messages and perhaps of a bye. The session read the first of them
+pub record UpSocket (c : Connection) : Type 0 where
+  pub bye : Bool
+  pub spelled : AllByRecursion HasSpelling (Hello ∷ said_lines (all_said c.sent bye))
+  pub brought : Brought c.taken
+  pub left : List ℕ
+  pub bytes : brought.read ++ left ≡ flat_map spelling (Hello ∷ said_lines (all_said c.sent bye))
 
 -- # Down
 

@@ -1,0 +1,4 @@
+mod Links
+mod Sites
+mod CutRuns
+mod Witness

@@ -55,9 +55,6 @@ edit_stays command a t ups fault other answers same =
     let call = rw other at answers in
     (λ i. record { site = t; up = same i; down = a.down }) ∙ refused_same (edit_answer board_batches command a.site) a t fault call.0 call.1
 
-pub edit_wanted : (command : Commands) (s t : BoardSite) (fault : EditFault) → star_sites.is_edit_memory fault ≡ true → star_sites.EditAnswers command s t (Err fault) → t ≡ s
-edit_wanted command s t fault memory answers = let call = rw memory at answers in call.0
-
 -- # The star's answers
 
 pub leave_left : (i : ℕ) (s t : BoardStar) → Answers (Leave i) s t (LeftReply (Ok tt)) → (t ≡ left i s) × (is_some (link_of i s.links) ≡ true)
@@ -134,9 +131,6 @@ join_refused s t fault other answers = cases (join_fault s) refl
     cases None e = let told = rw e at call.0 in absurd (cc)
     cases (Some found_fault) e = let told = rw e at call.0 in (e ∙ cc, rw e at call.1)
 
-pub join_wanted : (s t : BoardStar) (fault : StarFault) → is_no_memory fault ≡ true → Answers Join s t (JoinedReply (bare_joined (Err fault))) → t ≡ s
-join_wanted s t fault memory answers = let call = rw memory at answers in call.0
-
 pub fetch_fetched : (i : ℕ) (s t : BoardStar) (l : BoardLink) (downs : List (Down BoardBatch)) → link_of i s.links ≡ Some l → Answers (Fetch i 1) s t (FetchedReply (Ok downs))
     → (downs ≡ take 1 l.outbox) × (t ≡ fetched i 1 s)
 unfolding reply_of star_after
@@ -158,13 +152,6 @@ pub filled : (a : BoardAttached) (l : BoardLink) (downs : List (Down BoardBatch)
 filled a l downs empty e =
     let all = e ∙ ap (λ (ds : List (Down BoardBatch)). happenings.refilled_from ds l.outbox) (sym empty) in
     λ i. record { site = a.site; up = a.up; down = all i }
-
-pub filled_star : (a : BoardAttached) (l : BoardLink) (s t : BoardStar) → a.down ≡ [] → (l.outbox ≡ [] → ⊥) → t ≡ fetched a.site.number 1 s → t ≡ happenings.refilled_star l a s
-filled_star a l s t empty waits e = e ∙ there l.outbox waits ∙ ap (λ (ds : List (Down BoardBatch)). happenings.fetched_for a.site.number ds l.outbox s) (sym empty)
-  where
-    there : (os : List (Down BoardBatch)) → (os ≡ [] → ⊥) → fetched a.site.number 1 s ≡ happenings.fetched_for a.site.number [] os s
-    there [] not_empty = absurd (not_empty refl)
-    there (d ∷ os) not_empty = refl
 
 -- how many messages wait
 pub some_wait : (i : ℕ) (s : BoardStar) (l : BoardLink) (n : Option ℕ) → link_of i s.links ≡ Some l → n ≡ option_map (λ k. length k.outbox) (link_of i s.links) → not (option_eq eqb n (Some 0)) ≡ true

@@ -27,13 +27,6 @@ module _ (O : Operations) (L : AreLawful O) where
   unfolding SameMeaning
   same-trans a b c h k x p q = h x p q ∙ k x p q
 
-  -- lists of one meaning, after one list
-  pub same-before : (p a b : List O.Edit) → SameMeaning O a b → SameMeaning O (p ++ a) (p ++ b)
-  unfolding SameMeaning
-  same-before p a b h x p' q =
-      let e : O.t.meaning x ((p' ++ p) ++ (a ++ q)) ≡ O.t.meaning x ((p' ++ p) ++ (b ++ q)) = h x (p' ++ p) q in
-      simp append_assoc (simp append_assoc at e)
-
   -- and before one list
   pub same-later : (q a b : List O.Edit) → SameMeaning O a b → SameMeaning O (a ++ q) (b ++ q)
   unfolding SameMeaning

@@ -81,15 +81,6 @@ module _ (O : Operations) (L : AreLawful O) where
     pub taken_fits : IsNumber l.end m.mine × IsCount l.end m.heard × O.t.is_valid (received_operation O.t l.end m.heard m.op) held
     taken_fits = let came = link_laws.server_receives O.t L.lawful h.link_side stepping in (came.1, came.2, came.3)
 
-    -- it means the edit after the whole_taken order
-    pub taken_same : SameMeaning O ((edits past ++ edits rest) ++ O.t.edit_of (received_operation O.t l.end m.heard m.op) ∷ []) ((edits past ++ edits rest) ++ O.t.edit_of m.op ∷ [])
-    taken_same = subst (λ o. SameMeaning O ((edits past ++ edits rest) ++ O.t.edit_of o ∷ []) ((edits past ++ edits rest) ++ O.t.edit_of m.op ∷ [])) (sym received_is)
-        (grids.stands-now O L _ _ (edits past ++ edits rest) column.1)
-
-    -- it inserts what the edit does
-    pub taken_inserts : (n : O.t.Name) → O.t.inserts (O.t.edit_of (received_operation O.t l.end m.heard m.op)) n → O.t.inserts (O.t.edit_of m.op) n
-    taken_inserts n x = inherits.0 n (grids.inserts_clients O L h.star_ahead c n (subst (λ o. O.t.inserts (O.t.edit_of o) n) received_is x))
-
     -- the edit bears the site's next name
     pub taken_next : IsTrue (O.bears_next i (named_by O i i (past ++ rest)) (O.t.edit_of m.op))
     taken_next = named.0
@@ -97,13 +88,6 @@ module _ (O : Operations) (L : AreLawful O) where
     -- it is something
     pub taken_edit : O.is_nothing (O.t.edit_of m.op) ≡ false
     taken_edit = named.1
-
-    -- what it changes was known or is inserted
-    pub taken_changes : ChangesHeld O (λ j. named_by O i j (past ++ rest)) (O.t.edit_of m.op)
-    taken_changes = known_names.held_more O L (own_counts O i (named_by O i i (past ++ rest)) (λ j. named_by O i j past)) (λ j. named_by O i j (past ++ rest)) below (O.t.edit_of m.op) named.2
-      where
-        below : (j : ℕ) → own_counts O i (named_by O i i (past ++ rest)) (λ j. named_by O i j past) j ≤ named_by O i j (past ++ rest)
-        below = known_names.own_counts-below O L i (named_by O i i (past ++ rest)) (λ j. named_by O i j past) (λ j. named_by O i j (past ++ rest)) (le_refl _) (λ j. omega (arith, known_names.named_by-append O L i j past rest))
 
     -- the ends are then in step
     stepped : InStepAt O.t 0 (O.t.after c h.from) cs (servers_past O h.star_ahead c) a.site.board (O.t.after (received_operation O.t l.end m.heard m.op) held)

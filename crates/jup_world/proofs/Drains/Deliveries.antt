@@ -1,14 +1,13 @@
 -- Deliveries, and worlds in which none is left.
-use Rattle.std.proofs.Common.{◌≡◌, ℕ, Bool, true, false, List, [], ◌∷◌, ◌++◌, length, refl, subst, Some, leb-false, leb-true, nat_le, sym, ap, zero, suc, ◌+◌, ◌*◌, ◌<◌, ◌≤◌, cond, drop, nat_eq, Option, None, option_map, option_to_list, arith, eq-eqb, ◌∙◌, map, get_or, ◌↔◌, eqb-true, ne_eqb}
+use Rattle.std.proofs.Common.{◌≡◌, ℕ, Bool, true, false, List, [], ◌∷◌, ◌++◌, length, refl, subst, Some, leb-false, leb-true, nat_le, sym, ap, zero, suc, ◌+◌, ◌*◌, ◌<◌, ◌≤◌, cond, drop, nat_eq, Option, None, option_map, option_to_list, arith, eq-eqb, ◌∙◌, ◌↔◌, eqb-true, ne_eqb}
 use Rattle.std.proofs.lemmas.Bool.{eqb-false}
-use Rattle.jup_world.specs.Prelude.{Msg, Link, owes, next_message, Operations, AreLawful, board_batches, BoardBatch, batch_laws, Up, UpOp, UpAck, UpPing, Down, DownOp, DownAck, DownPong, StarOf, owed_down, link_acked, link_ponged, link_fetched, link_sent, link_heard, operation_at, end_after, link_of, without, at_link, links_after, most_batches, BoardStar, sent_back, Attached, Nothing}
+use Rattle.jup_world.specs.Prelude.{Msg, Link, owes, next_message, Operations, AreLawful, board_batches, BoardBatch, batch_laws, Up, UpOp, UpAck, UpPing, Down, DownOp, DownAck, DownPong, StarOf, owed_down, link_acked, link_ponged, link_fetched, link_sent, link_heard, operation_at, end_after, link_of, without, at_link, links_after, most_batches, BoardStar, sent_back, Nothing}
 use Rattle.jup_world.specs.Events as world_events
 use Rattle.jup_world.specs.Worlds.{WorldOf, EventOf, attached, IsQuiet, Outcome, outcome, at_site, without_site, happens, is_number, AreAscending, AttachedOf, one_taken, one_handed}
 use Rattle.jup_world.specs.Sound as soundness
 use Rattle.jup_world.specs.Boards.{BoardWorld, BoardLink, BoardAttached, BoardEvent, AllAgree}
 use Rattle.jup_world.specs.Lanes.{IsDelivery}
 use Rattle.jup_world.specs.Drains.{up_weight, down_weight, link_weight, sum_to, weight_of, weight}
-use Rattle.jup_world.specs.Insides.{bare_attached}
 use Rattle.jup_world.specs.Traces as traces
 use Rattle.jup_world.specs.Happenings.{IsQuietAt, AllQuiet, IsWorld}
 use Rattle.jup_world.proofs.EventSteps as steps
@@ -271,18 +270,6 @@ same_weight w v e f = λ j. weight_of (e j) (f j)
 -- Worlds in which no message is on its way.
 
 -- # One site more
-
-pub quiet_from : (star : BoardStar) (sites : List Attached) (n : ℕ) (e : Attached) → n < length sites → e ≡ get_or sites n e
-    → AllQuiet star (map bare_attached (drop n sites)) ↔ (IsQuietAt (bare_attached e) star × AllQuiet star (map bare_attached (drop (n + 1) sites)))
-quiet_from star sites n e below is =
-    let next : suc n ≡ n + 1 = omega arith in
-    subst (λ k. AllQuiet star (map bare_attached (drop n sites)) ↔ (IsQuietAt (bare_attached e) star × AllQuiet star (map bare_attached (drop k sites)))) next (here sites n below is)
-  where
-    here : (xs : List Attached) (k : ℕ) → k < length xs → e ≡ get_or xs k e → AllQuiet star (map bare_attached (drop k xs)) ↔ (IsQuietAt (bare_attached e) star × AllQuiet star (map bare_attached (drop (suc k) xs)))
-    here [] k low same = absurd (omega arith)
-    here (x ∷ xs) zero low same =
-        (λ all. (subst (λ (a : Attached). IsQuietAt (bare_attached a) star) (sym same) all.0, all.1), λ all. (subst (λ (a : Attached). IsQuietAt (bare_attached a) star) same all.0, all.1))
-    here (x ∷ xs) (suc k) low same = here xs k (omega arith) same
 
 -- # All sites
 

@@ -53,9 +53,6 @@ deliveries_append : (one two : List BoardEvent) → AreDeliveries one → AreDel
 deliveries_append [] two p q = q
 deliveries_append (e ∷ es) two p q = (p.0, deliveries_append es two p.1 q)
 
-pub delivered_none : (w : LaneWorld) → IsDelivered w w
-delivered_none w = record { events = []; deliveries = tt; steps = refl }
-
 pub delivered_both : (w v u : LaneWorld) → IsDelivered w v → IsDelivered v u → IsDelivered w u
 delivered_both w v u one two = record {
   events = one.events ++ two.events;
@@ -72,9 +69,6 @@ part_both w v u one two = record {
   delivery = two.delivery;
   spared = two.spared;
 }
-
-pub settles_none : (w : LaneWorld) → Settles false w w
-settles_none w = record { delivered = delivered_none w; lighter = λ some. absurd (cc); same_star = λ none. refl; same_sites = λ none. refl }
 
 -- some deliveries and then others
 pub settles_both : (one two : Bool) (w v u : LaneWorld) → Settles one w v → Settles two v u → Settles (one || two) w u

@@ -187,14 +187,7 @@ module _ {Message : Type 0} (C : Codec Message) (L : IsCodec C) where
   pub moved-carries : (old new : Way) → IsMovedOn old new → Carries C old → Carries C new
   moved-carries old new on is = subst (Carries C) (sym on.is) (lanes.carried-moved C L on.count old is).1
 
-  -- there was none
-  pub none-read : (old new : Way) → IsFilled C old new None → length new.read ≡ length old.read - oldest_length C (messages C old)
-  none-read old new filled =
-      let none = ap (oldest_length C) filled.0 in
-      let same = ap (λ (w : Way). length w.read) filled.1 in
-      omega (arith, none, same)
-
-  -- or it is handed over
+  -- a message that was there is handed over
   pub taken-read : (old mid new : Way) (m : Message) → IsFilled C old mid (Some m) → new ≡ handed_over (length (bytes_of C m)) mid
       → length new.read ≡ length old.read - oldest_length C (messages C old)
   taken-read old mid new m filled handed =
@@ -211,10 +204,6 @@ module _ {Message : Type 0} (C : Codec Message) (L : IsCodec C) where
   pushed-read old new count most is made =
       let long = lanes.length-moved count old (omega (arith, is)) in
       ap (λ (w : Way). length w.read) made ∙ long ∙ ap (λ k. length old.read + k) is
-
-  -- a message that is sent
-  pub sent-carries : (old new : Way) (m : Message) → C.IsSpelled m → new ≡ sent (bytes_of C m) old → Carries C old → Carries C new
-  sent-carries old new m spelled made is = subst (Carries C) (sym made) (lanes.carried-sent C L old m is spelled).1
 
 -- # A down stream that was filled
 
@@ -296,14 +285,6 @@ rests_down l a mid b filled on = record {
     cases : (mid.down ≡ a.down) ⊎ (mid.down ≡ filled_way a.down.stream l.outbox a.down) → IsMovedOn a.down b.down ⊎ IsMovedOn (filled_way a.down.stream l.outbox a.down) b.down
     cases (inl same) = inl (from a.down same)
     cases (inr more) = inr (from (filled_way a.down.stream l.outbox a.down) more)
-
-pub rests_none : (l : BoardLink) (a b : LaneSite) → b ≡ a → RestsDown l a b
-rests_none l a b same = record {
-  site = ap (λ (x : LaneSite). x.site) same;
-  up = ap (λ (x : LaneSite). x.up) same;
-  down = inl (record { count = 0; is = ap (λ (x : LaneSite). x.down) same ∙ sym (lanes.moved-none a.down) });
-  carry = subst (λ (x : LaneSite). Carries downs a.down → Carries downs x.down) (sym same) (λ is. is);
-}
 
 -- a message was delivered to the site
 pub handed-site : (a b : LaneSite) (mid down : Way) (m : Down BoardBatch) → IsFilled downs a.down mid (Some m) → down ≡ mid → b.down ≡ handed_over (length (bytes_of downs m)) down
